@@ -209,7 +209,7 @@ def billed(wanted):
 
 def without_words(told):
     """An explanation without the words for its codes."""
-    codes = [{name: value for name, value in code.items() if name not in ("name", "wanted")} for code in told.get("codes", ())]
+    codes = [{name: value for name, value in code.items() if name not in ("name", "expected")} for code in told.get("codes", ())]
     return {**told, "codes": codes} if codes else told
 
 

@@ -20,24 +20,24 @@ counted_map p q g same (m ∷ ms) =
     ∙ sym (sum_by-cons (λ x. cond (q x) 1 0) m ms)
 
 module _ (L : Ledger) where
-  abbrev told : Member → MemberChange
-  told m = record { member = m; change = change_of L m }
+  abbrev with_change : Member → MemberChange
+  with_change m = record { member = m; change = change_of L m }
 
-  comes : (m : Member) (o : Option Member) → member_in L.members m.key ≡ o → came_in (told m) ≡ comes_in L m
+  comes : (m : Member) (o : Option Member) → member_in L.members m.key ≡ o → came_in (with_change m) ≡ comes_in L m
   comes m None is = rw is refl
   comes m (Some own) is = elim (cases_Bool (member.eq own m)) [ inl same ↦ rw (is, same) refl | inr other ↦ rw (is, other) refl ]
 
-  stays_on : (m : Member) (o : Option Member) → member_in L.members m.key ≡ o → stayed (told m) ≡ stays L m
+  stays_on : (m : Member) (o : Option Member) → member_in L.members m.key ≡ o → stayed (with_change m) ≡ stays L m
   stays_on m None is = rw is refl
   stays_on m (Some own) is = elim (cases_Bool (member.eq own m)) [ inl same ↦ rw (is, same) refl | inr other ↦ rw (is, other) refl ]
 
-  turns : (m : Member) (o : Option Member) → member_in L.members m.key ≡ o → changed (told m) ≡ changes L m
+  turns : (m : Member) (o : Option Member) → member_in L.members m.key ≡ o → changed (with_change m) ≡ changes L m
   turns m None is = rw is refl
   turns m (Some own) is = elim (cases_Bool (member.eq own m)) [ inl same ↦ rw (is, same) refl | inr other ↦ rw (is, other) refl ]
 
   pub counted : (table : List Member) → counts_in (changes_of L table) ≡ counts_of L table
   counted table = λ i. record {
-    came_in = counted_map came_in (comes_in L) told (λ m. comes m (member_in L.members m.key) refl) table i;
-    changed = counted_map changed (changes L) told (λ m. turns m (member_in L.members m.key) refl) table i;
-    stayed = counted_map stayed (stays L) told (λ m. stays_on m (member_in L.members m.key) refl) table i;
+    came_in = counted_map came_in (comes_in L) with_change (λ m. comes m (member_in L.members m.key) refl) table i;
+    changed = counted_map changed (changes L) with_change (λ m. turns m (member_in L.members m.key) refl) table i;
+    stayed = counted_map stayed (stays L) with_change (λ m. stays_on m (member_in L.members m.key) refl) table i;
   }

@@ -13,7 +13,6 @@ use Rattle.rx_books_text.specs.declared.line.Line.TheVariants as line
 use Rattle.rx_books_text.specs.declared.version.Version.TheVariants.{Three}
 use Rattle.rx_books_text.specs.LineText.{ended, head_text, line_text}
 use Rattle.rx_books_text.specs.Printed.{line_feeds, member_lines}
-use Rattle.rx_books_family.proofs.BookValues.{ledger_path}
 use Rattle.rx_books_store.specs.BooksText.{above_text, below_text, books_text, claims_text, families_of, lines_text, total_of}
 use Rattle.rx_books_store.specs.LedgerBooks.{LedgerBooks}
 use Rattle.rx_books_store.proofs.KeptText.{books_text-parts}
@@ -67,20 +66,6 @@ module _ (b : LedgerBooks) where
   unfolding below_text
   below_is fs ms all =
       families fs ∙ ap (λ gs. lines_text (map (λ t. line.Total t) (map (total_of Three b.period b.ledger) gs))) all
-
--- the ledger has its own members
-pub own_members : (L : Ledger) → of_members L.members L ≡ L
-own_members L = ledger_path (of_members L.members L) L refl refl
-
-pub own_above : (b : LedgerBooks) (ms : List Member) (above : List ℕ) → ms ≡ b.ledger.members
-    → above ≡ above_text b.period (of_members ms b.ledger) → above ≡ above_text b.period b.ledger
-own_above b ms above own is =
-    is ∙ ap (λ ns. above_text b.period (of_members ns b.ledger)) own ∙ ap (above_text b.period) (own_members b.ledger)
-
-pub own_below : (b : LedgerBooks) (ms : List Member) (below : List ℕ) → ms ≡ b.ledger.members
-    → below ≡ below_text b.period (of_members ms b.ledger) → below ≡ below_text b.period b.ledger
-own_below b ms below own is =
-    is ∙ ap (λ ns. below_text b.period (of_members ns b.ledger)) own ∙ ap (below_text b.period) (own_members b.ledger)
 
 -- how many lines there are in all
 feeds-append : (xs ys : List ℕ) → line_feeds (xs ++ ys) ≡ line_feeds xs + line_feeds ys

@@ -1,19 +1,16 @@
 -- From which day on a claim is over, by the numbers of days.
-use Rattle.std.proofs.Common.{◌≡◌, ℕ, ◌+◌, ◌*◌, ◌/◌, ◌%◌, ◌<◌, ◌≤◌, min, max, Bool, true, false, not, List, Option, Some, None, refl, ap, sym, subst, ◌∙◌, inl, inr, arith, lit<, lit≤}
-use Rattle.std.proofs.Common.{ℤ, pos, ◌+ℤ◌, ◌-ℤ◌, ◌*ℤ◌, ◌<ℤ◌, ◌≤ℤ◌, length, get_or, take}
+use Rattle.std.proofs.Common.{◌≡◌, ℕ, ◌+◌, ◌*◌, ◌/◌, ◌%◌, ◌<◌, ◌≤◌, min, max, Bool, true, false, not, Option, Some, None, refl, sym, subst, ◌∙◌, inl, inr, arith, lit<, lit≤}
+use Rattle.std.proofs.Common.{ℤ, pos, ◌+ℤ◌, ◌-ℤ◌, ◌*ℤ◌, ◌<ℤ◌, ◌≤ℤ◌}
 use Rattle.std.specs.Prelude.{◌&&◌, ◌↔◌, int_le, int_lt, nat_lt, IfSome, IsNone, MatchOption, Ok, codes}
-use Rattle.std.specs.List.{list_all}
-use Rattle.std.proofs.lemmas.Bool.{both_ways, cases_Bool, ltb-false, ltb-true}
+use Rattle.std.proofs.lemmas.Bool.{cases_Bool, ltb-false, ltb-true}
 use Rattle.std.proofs.lemmas.Grind.{div_ceil_times}
 use Rattle.std.proofs.lemmas.Int.{by_lt_z, ints}
-use Rattle.std.proofs.lemmas.List.{take_all}
-use Rattle.std.proofs.lemmas.List.Folds.{list_all_at, list_all_more}
 use Rattle.jiff_core.specs.Calendar.{day_count}
 use Rattle.jiff_core.proofs.CalendarLemmas.{days_from_civil-day_count, day_count-lt_year, day_count-lt_month, day_count-day}
 use Rattle.rx_fields.specs.Calendar.{Civil, IsCivil, date_of, day_number, last_day}
 use Rattle.rx_fields.proofs.DayNumbers.{library_has, signed_arith, up_to_last}
 use Rattle.rx_ledger.specs.declared.row.Row.{Row}
-use Rattle.rx_books_upkeep.specs.Ageing.{IsFirstSafe, IsSafe, is_over}
+use Rattle.rx_books_upkeep.specs.Ageing.{is_over}
 
 -- ---- tests of numbers
 
@@ -35,17 +32,6 @@ le_from a b h = grind (arith, ints)
 and_false : (a : Bool) → (a && false) ≡ false
 and_false true = refl
 and_false false = refl
-
--- the later of two numbers
-pub first_later : (a b d : ℤ) → a <ℤ b → int_le b d ≡ (int_le a d && int_le b d)
-first_later a b d less =
-    by_lt_z d b (λ before. rw (le_false b d before) (sym (and_false (int_le a d))))
-    (λ from. let too : int_le a d ≡ true = le_true a d (omega (arith, ints)) in rw (le_true b d from, too) refl)
-
-pub second_later : (a b d : ℤ) → b ≤ℤ a → int_le a d ≡ (int_le a d && int_le b d)
-second_later a b d less =
-    by_lt_z d a (λ before. rw (le_false a d before) refl)
-    (λ from. let too : int_le b d ≡ true = le_true b d (omega (arith, ints)) in rw (le_true a d from, too) refl)
 
 -- ---- a claim
 

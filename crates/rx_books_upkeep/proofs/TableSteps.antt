@@ -76,12 +76,6 @@ few_read text es few is =
     let small : ltb 1_000_000 (line_feeds text) ≡ false = le-ltb _ _ few in
     rw (small, is) refl
 
-pub few_fault : (text : List ℕ) (f : TableFault) → line_feeds text ≤ 1_000_000 → headed (lines text) ≡ Err f
-    → table_of text ≡ Err f
-few_fault text f few is =
-    let small : ltb 1_000_000 (line_feeds text) ≡ false = le-ltb _ _ few in
-    rw (small, is) refl
-
 -- ---- the members that are listed
 
 below : (k : MemberKey) (es : Entries) → AllByRecursion (λ y. member_cmp k y ≡ Less) (keys_of es)

@@ -3,7 +3,6 @@ use Rattle.std.specs.Prelude.{◌≡◌, ℕ, not, ◌||◌, ◌==◌, if◌then
 use Rattle.std.specs.Prelude.{is_err, option_copied}
 use Rattle.std.specs.Fmt.{decimal}
 use Rattle.rx_batch.specs.declared.fault.BatchFault.{BatchFault}
-use Rattle.rx_books_text.specs.declared.fault.BooksFault.{BooksFault}
 use Rattle.rx_fields.specs.Calendar.{date_of}
 use Rattle.rx_fields.specs.declared.limits.TheConstants.{MOST_WORKERS}
 use Rattle.rx_sheet.specs.declared.fault.SheetFault.{SheetFault}

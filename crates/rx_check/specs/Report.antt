@@ -51,7 +51,7 @@ abbrev pub warning_line : List ℕ → List ℕ → List ℕ
 warning_line file said = file ++ (codes ": warning: " ++ (said ++ 10 ∷ []))
 
 abbrev pub line_if : Bool → List ℕ → List ℕ
-line_if wanted line = if wanted then line else []
+line_if is_given line = if is_given then line else []
 
 -- each key of the sheet that is ignored
 abbrev pub ignored_text : List ℕ → List (List ℕ) → List ℕ

@@ -61,9 +61,9 @@ warns_of_nothing w =
 
 -- the books' period, where it is another than the sheet's
 abbrev pub IsOtherPeriod : Plan → Option LedgerBooks → Option Span → Type 0
-IsOtherPeriod plan None told = told ≡ None
-IsOtherPeriod plan (Some books) told =
-    MatchOption told (plan.figures.period ≡ books.period)
+IsOtherPeriod plan None warned = warned ≡ None
+IsOtherPeriod plan (Some books) warned =
+    MatchOption warned (plan.figures.period ≡ books.period)
     (λ period. (plan.figures.period ≢ books.period) × (period ≡ books.period))
 
 -- how many lines the books have

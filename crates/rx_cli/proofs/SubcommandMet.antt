@@ -1,5 +1,5 @@
 -- The subcommand that a parse met is that of `clap`'s matches of the words.
-use Rattle.std.proofs.Common.{◌≡◌, ◌∙◌, true, List, Option, Some, None, option_map, refl, ap, sym}
+use Rattle.std.proofs.Common.{◌≡◌, ◌∙◌, true, List, Option, Some, None, option_map, refl, sym}
 use Rattle.std.specs.Prelude.{Box}
 use Rattle.std.specs.Box.{box_value}
 use Rattle.clap.specs.Words.{Row, Text, is_simple, is_simple_and_free, subcommand_name_of}

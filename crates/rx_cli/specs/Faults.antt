@@ -18,14 +18,14 @@ IsWords (Words text) = ⊤
 IsWords Memory = ⊥
 
 -- the text for standard error: none where one path stands twice; where `clap` prints it, no definition fixes it
-abbrev pub told_text : WordsFault → Option (List ℕ)
-told_text (Words (Some told)) = None
-told_text (Words None) = Some []
-told_text Memory = Some (codes "refused 6 0 0" ++ 10 ∷ [])
+abbrev pub fault_text : WordsFault → Option (List ℕ)
+fault_text (Words (Some error)) = None
+fault_text (Words None) = Some []
+fault_text Memory = Some (codes "refused 6 0 0" ++ 10 ∷ [])
 
 -- what `clap` says is of such a kind
 abbrev pub is_of : (ErrorKind → Bool) → WordsFault → Bool
-is_of is_such (Words (Some told)) = is_such (kind_of told)
+is_of is_such (Words (Some error)) = is_such (kind_of error)
 is_of is_such _ = false
 
 -- the words ask for the version
@@ -46,7 +46,7 @@ asks_help fault = is_of is_help fault
 
 -- the words are misused, which `clap` reports as a fault of this kind, unless memory ran out
 abbrev pub IsMisuse : ErrorKind → WordsFault → Type 0
-IsMisuse kind (Words (Some told)) = kind_of told ≡ kind
+IsMisuse kind (Words (Some error)) = kind_of error ≡ kind
 IsMisuse kind (Words None) = ⊥
 IsMisuse kind Memory = ⊤
 
@@ -55,7 +55,7 @@ abbrev pub IsMisuseOfOne : ErrorKind → ErrorKind → WordsFault → Type 0
 IsMisuseOfOne one other fault = IsMisuse one fault ⊎ IsMisuse other fault
 
 abbrev pub misuse_of : {E : Type 0} → Result Error E → WordsFault
-misuse_of (Ok told) = Words (Some told)
+misuse_of (Ok error) = Words (Some error)
 misuse_of (Err error) = Memory
 
 -- memory ran out

@@ -1,7 +1,7 @@
 //! Why there is no command.
 ghost use Rattle.std.specs.Prelude.{◌≡◌, ◌≢◌};
 ghost use Rattle.clap.specs.Words.{kind_of};
-ghost use Rattle.rx_cli.specs.Faults.{IsWords, asks_help, asks_version, memory_fault, number_of, out_of_memory, told_text};
+ghost use Rattle.rx_cli.specs.Faults.{IsWords, asks_help, asks_version, memory_fault, number_of, out_of_memory, fault_text};
 
 use clap::error::ErrorKind;
 use std::alloc::AllocError;
@@ -35,7 +35,7 @@ impl WordsFault {
         ensures { result ≡ asks_version self.now }
     {
         match self {
-            WordsFault::Words(Some(told)) => matches!(told.kind(), ErrorKind::DisplayVersion),
+            WordsFault::Words(Some(error)) => matches!(error.kind(), ErrorKind::DisplayVersion),
             _ => false,
         }
     }
@@ -45,7 +45,7 @@ impl WordsFault {
         ensures { result ≡ asks_help self.now }
     {
         match self {
-            WordsFault::Words(Some(told)) => matches!(told.kind(), ErrorKind::DisplayHelp),
+            WordsFault::Words(Some(error)) => matches!(error.kind(), ErrorKind::DisplayHelp),
             _ => false,
         }
     }
@@ -60,12 +60,12 @@ impl From<AllocError> for WordsFault {
 }
 
 impl From<clap::Error> for WordsFault {
-    ghost from_gives = { λ told fault. IsWords fault → kind_of told ≢ out_of_memory };
+    ghost from_gives = { λ error fault. IsWords fault → kind_of error ≢ out_of_memory };
 
-    fn from(told: clap::Error) -> WordsFault {
-        match told.kind() {
+    fn from(error: clap::Error) -> WordsFault {
+        match error.kind() {
             ErrorKind::OutOfMemory => WordsFault::Memory,
-            _ => WordsFault::Words(Some(told)),
+            _ => WordsFault::Words(Some(error)),
         }
     }
 }
@@ -91,11 +91,11 @@ impl<W: fmt::Write> fmt::Write for Shown<'_, W> {
 }
 
 impl fmt::Display for WordsFault {
-    ghost output = { told_text };
+    ghost output = { fault_text };
 
     fn fmt<W: fmt::Write>(&self, f: &mut fmt::Formatter<W>) -> fmt::Result {
         match self {
-            WordsFault::Words(Some(told)) => write!(Shown { to: f }, "{told}"),
+            WordsFault::Words(Some(error)) => write!(Shown { to: f }, "{error}"),
             WordsFault::Words(None) => Ok(()),
             WordsFault::Memory => f.write_str("refused 6 0 0\n"),
         }

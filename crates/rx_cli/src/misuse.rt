@@ -190,53 +190,53 @@ fn miscounted(alloc: Global, draft: Draft<'_>, program: &str, found: &ArgMatches
     ensures { IsMisuse ErrorKind.ValueValidation result }
 {
     let number = text(found, "workers").unwrap_or("");
-    fault(told_miscounted(alloc, draft, program, number))
+    fault(miscount_error(alloc, draft, program, number))
 }
 
 // Of options that exclude or require each other.
 pub(crate) fn conflict(draft: Draft<'_>, program: &str, text: &str) -> WordsFault
     ensures { IsMisuse ErrorKind.ArgumentConflict result }
 {
-    fault(told(draft, program, ErrorKind::ArgumentConflict, text))
+    fault(error_of(draft, program, ErrorKind::ArgumentConflict, text))
 }
 
 // Of a value that isn't understood.
 fn invalid(draft: Draft<'_>, program: &str, text: &str) -> WordsFault
     ensures { IsMisuse ErrorKind.ValueValidation result }
 {
-    fault(told(draft, program, ErrorKind::ValueValidation, text))
+    fault(error_of(draft, program, ErrorKind::ValueValidation, text))
 }
 
-fn fault(told: Result<clap::Error, AllocError>) -> WordsFault
-    ensures { result ≡ misuse_of told }
+fn fault(error: Result<clap::Error, AllocError>) -> WordsFault
+    ensures { result ≡ misuse_of error }
 {
-    match told {
-        Ok(told) => WordsFault::Words(Some(told)),
+    match error {
+        Ok(error) => WordsFault::Words(Some(error)),
         Err(_) => WordsFault::Memory,
     }
 }
 
-fn told_miscounted(
+fn miscount_error(
     alloc: Global,
     draft: Draft<'_>,
     program: &str,
     number: &str,
 ) -> Result<clap::Error, AllocError>
-    ensures { IfOk result (λ told. kind_of told ≡ ErrorKind.ValueValidation) }
+    ensures { IfOk result (λ error. kind_of error ≡ ErrorKind.ValueValidation) }
 {
     let text = format!(in alloc;
         "invalid value '{number}' for '--workers <N>': expected a number from 1 to 64"
     )?;
-    told(draft, program, ErrorKind::ValueValidation, text.as_str())
+    error_of(draft, program, ErrorKind::ValueValidation, text.as_str())
 }
 
-fn told(
+fn error_of(
     draft: Draft<'_>,
     program: &str,
     kind: ErrorKind,
     text: &str,
 ) -> Result<clap::Error, AllocError>
-    ensures { IfOk result (λ told. kind_of told ≡ kind) }
+    ensures { IfOk result (λ error. kind_of error ≡ kind) }
 {
     let mut line = Box::into_inner(draft.line()?).bin_name(program)?;
     line.error(kind, text)

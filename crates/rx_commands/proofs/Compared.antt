@@ -13,7 +13,6 @@ use Rattle.rx_d0_reply.specs.Text.{reply_text}
 use Rattle.rx_explain.specs.Spots.{item}
 use Rattle.rx_ledger.specs.Fold.{fold_replies}
 use Rattle.rx_report.specs.Lines.{answer_of, lines_of}
-use Rattle.rx_report.specs.declared.line.Line.{Line}
 use Rattle.rx_report.proofs.Counted.{counted}
 use Rattle.rx_settle.specs.Answers.{answers_of, is_approved}
 use Rattle.rx_settle.specs.Settlement.{net}
@@ -71,7 +70,7 @@ module _ (sheet books batch : List ℕ) (r : Report) (is : IsReported sheet book
 
   pub answers_are : map answer_of r.lines.items ≡ answers_of r.batch.replies.items
   answers_are =
-      ap (map answer_of) is.told.lines_are
+      ap (map answer_of) is.contents.lines_are
       ∙ kept_answers (with_reversed r.batch) (keeps_reversed r.batch) (lines_of r.batch.asked.items r.batch.replies.items)
       ∙ counted r.batch.asked.items r.batch.replies.items (lines_of r.batch.asked.items r.batch.replies.items) refl replied
 
@@ -107,11 +106,11 @@ module _ (sheet books other_sheet other_books batch : List ℕ) (r s : Report) (
 
   aligned_so : map at_of r.lines.items ≡ map at_of s.lines.items
   aligned_so =
-      ap (map at_of) one.told.lines_are
+      ap (map at_of) one.contents.lines_are
       ∙ kept_ats (with_reversed r.batch) (keeps_reversed r.batch) (lines_of r.batch.asked.items r.batch.replies.items)
       ∙ aligned 1 r.batch.asked.items s.batch.asked.items r.batch.replies.items s.batch.replies.items
       (replied sheet books batch r one) (replied other_sheet other_books batch s two) alike
-      ∙ sym (ap (map at_of) two.told.lines_are
+      ∙ sym (ap (map at_of) two.contents.lines_are
       ∙ kept_ats (with_reversed s.batch) (keeps_reversed s.batch) (lines_of s.batch.asked.items s.batch.replies.items))
 
   as_many : length (entries_by r) ≡ length (entries_by s)
@@ -125,12 +124,12 @@ module _ (sheet books other_sheet other_books batch : List ℕ) (r s : Report) (
       same_by_lines (with_reversed r.batch) (with_reversed s.batch) (keeps_reversed r.batch) (keeps_reversed s.batch)
       r.batch.asked.items s.batch.asked.items r.batch.replies.items s.batch.replies.items
       (replied sheet books batch r one) (replied other_sheet other_books batch s two) alike r.lines.items s.lines.items
-      one.told.lines_are two.told.lines_are place none
+      one.contents.lines_are two.contents.lines_are place none
 
   nets_so : net s.settled.total -ℤ net r.settled.total ≡ change (differing r s)
   nets_so =
       nets_apart (entries_by r) (entries_by s) (answers_of r.batch.replies.items) (answers_of s.batch.replies.items)
-      r.settled.total s.settled.total one.told.total_is two.told.total_is
+      r.settled.total s.settled.total one.contents.total_is two.contents.total_is
       (entries_so sheet books batch r one) (entries_so other_sheet other_books batch s two) as_many
 
   pub whole : IsWhole r s (differing r s)

@@ -1,5 +1,5 @@
 -- Two adjudications of the same details have as many answers to each, and repeat the same of it.
-use Rattle.std.proofs.Common.{◌≡◌, ◌≤◌, ℕ, suc, ◌+◌, max, min, nat_le, Bool, true, false, ◌==◌, ◌&&◌, ◌||◌, not, is_none, is_some, codes, List, [], ◌∷◌, length, map, refl, ap}
+use Rattle.std.proofs.Common.{◌≡◌, ◌≤◌, ℕ, suc, ◌+◌, max, min, nat_le, Bool, true, false, ◌==◌, ◌&&◌, ◌||◌, not, is_none, is_some, codes, List, [], ◌∷◌, length, refl, ap}
 use Rattle.std.proofs.Common.{sym, ◌∙◌, inl, inr, subst}
 use Rattle.std.specs.List.{AllZip}
 use Rattle.std.proofs.Math.Nat.{le-max_left, max-eq_right, min-eq_left}

@@ -69,18 +69,6 @@ bad_detail at details i d old new fault.Memory lt is so fails = tt
 
 -- ---- a file
 
-pub not_read : (at : ℕ) (bytes : List ℕ) (f : CycleFault) → IsNotRead at bytes f → IsBadFile at bytes f
-not_read at bytes (fault.NoResponse file g) fails = fails
-not_read at bytes (fault.NoReply file place g) fails = absurd fails
-not_read at bytes fault.Memory fails = tt
-
-pub bad_details : (at : ℕ) (bytes : List ℕ) (head : Head) (details : List Detail) (f : CycleFault)
-    → IsResponse bytes head details → IsBadDetail at details f → IsBadFile at bytes f
-bad_details at bytes head details (fault.NoResponse file g) is fails = absurd fails
-bad_details at bytes head details (fault.NoReply file place g) is fails =
-    (fails.0, record { head = head; details = details; file = is; first = fails.1 })
-bad_details at bytes head details fault.Memory is fails = tt
-
 pub appended : (bytes : List ℕ) (head : Head) (details : List Detail) (runs new_runs : List BatchRun)
     (replies new_replies : List Reply) → IsResponse bytes head details → new_runs ≡ runs ++ run_of head ∷ []
     → AreAppended details replies new_replies → IsAppended bytes runs replies new_runs new_replies

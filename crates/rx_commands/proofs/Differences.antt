@@ -26,7 +26,7 @@ use Rattle.rx_settle.specs.declared.tally.Tally.{Tally}
 use Rattle.rx_commands.proofs.Counts.{Alike}
 use Rattle.rx_commands.proofs.Items.{item_of}
 use Rattle.rx_commands.specs.Differing.{Differing, Entry, HasNoLine, IsOne, accepted_in, are_one, change, differing_in, differing_of}
-use Rattle.rx_commands.specs.Differing.{entries_of, entry_in, gain, is_accepted, less, more, same_status}
+use Rattle.rx_commands.specs.Differing.{entries_of, gain, is_accepted, less, more, same_status}
 use Rattle.rx_commands.specs.Lines.{at_of}
 
 -- lines change, but keep place and answer

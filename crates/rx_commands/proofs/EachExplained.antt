@@ -9,7 +9,6 @@ use Rattle.rx_d0_values.specs.declared.transaction.Transaction.{Transaction}
 use Rattle.rx_d0_values.specs.declared.transmission.Body.{Body}
 use Rattle.rx_d0_values.specs.declared.transmission.Body.TheVariants as body
 use Rattle.rx_d0_values.specs.declared.transmission.Heard.{Heard}
-use Rattle.rx_d0_values.specs.declared.transmission.Rejected.{Rejected}
 use Rattle.rx_d0_values.specs.declared.transmission.Transmission.{Transmission}
 use Rattle.rx_explain.specs.declared.at.At.{At}
 use Rattle.rx_explain.specs.declared.events.Event.{Event}
@@ -125,16 +124,6 @@ module _ (b : Batch) (place : ℕ) where
       (subst (λ (x : Option Facts). AreFactsAt b.lot b.sheet.now b.asked.now b.opening.now.ledger
       (record { place = place; nth = nth }) None x) (sym (no_item nth)) tt)
 
-  -- a record whose header is rejected has none
-  pub among_rejected : (t : Transmission) (r : Rejected) → item b.asked.now place ≡ Some t → t.body ≡ body.Rejected r
-      → AreDecided b place []
-  among_rejected t r is has = none_among (λ nth. spot_is t (body.Rejected r) nth is has)
-
-  -- nor has a place without a record
-  pub among_nothing : item b.asked.now place ≡ None → AreDecided b place []
-  among_nothing none =
-      none_among (λ nth. ap (option_and_then (λ (u : Transmission). spot_in nth u.body)) none)
-
 module _ (b : Batch) (events : List Event) where
   -- explained among events
   pub facts_traced : (at : At) (o : Option Spot) (x : Facts) (y : Explanation)
@@ -146,10 +135,3 @@ module _ (b : Batch) (events : List Event) where
       let L = ledger_before b.lot b.sheet.now b.asked.now b.opening.now.ledger at.place s.heard at.nth in
       subst (λ (p : At). IsOnLedger b.lot b.sheet.now L events p s y) are.at_is
       (traced L s (subst (λ (p : At). AreFacts b.lot b.sheet.now L p s x) (sym are.at_is) are))
-
-  -- and if there is no transaction there is no explanation
-  pub nothing_traced : (at : At) (o : Option Spot)
-      → AreFactsAt b.lot b.sheet.now b.asked.now b.opening.now.ledger at o None
-      → IsAmong b.lot b.sheet.now b.asked.now b.opening.now.ledger events at o None
-  nothing_traced at None are = tt
-  nothing_traced at (Some s) are = absurd are

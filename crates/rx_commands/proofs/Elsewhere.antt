@@ -30,7 +30,7 @@ use Rattle.rx_explain.specs.Names.{ledger_named}
 use Rattle.rx_explain.specs.Spots.{Spot, item}
 use Rattle.rx_explain.specs.declared.at.At.{At}
 use Rattle.rx_explain.specs.declared.explanation.Explanation.{Explanation}
-use Rattle.rx_explain.specs.declared.finding.Wanted.{Wanted}
+use Rattle.rx_explain.specs.declared.finding.Query.{Query}
 use Rattle.rx_explain.proofs.NamesApart.{All-item, at-place, explained-alike, item-some, there-too}
 use Rattle.rx_explain.proofs.NamesFolded.{InOrder}
 use Rattle.rx_commands.proofs.NamesFound.{found-alike, is_own_at, item-mapped}
@@ -200,7 +200,7 @@ module _ (asks : Detail → Transmission) (own : List ℕ) (plan : Plan) (detail
 
   -- ---- two batches that were replayed, as far as the pharmacy may see them
 
-  module _ (lot : LotParts) (w : Wanted) (r s : Retraced) (beside : AreBeside r s)
+  module _ (lot : LotParts) (w : Query) (r s : Retraced) (beside : AreBeside r s)
       (r-details : r.details ≡ details) (s-details : s.details ≡ others)
       (r-replies : r.replies.items ≡ fold_replies lot plan 1 ts L) (s-replies : s.replies.items ≡ fold_replies lot plan 1 us M)
       (r-asked : r.asked.items ≡ own_asked own (place_asked w) ts) (s-asked : s.asked.items ≡ own_asked own (place_asked w) us)

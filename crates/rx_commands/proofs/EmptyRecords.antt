@@ -1,5 +1,5 @@
 -- Details without a transmission are rejected, and change no books.
-use Rattle.std.proofs.Common.{◌≡◌, ℕ, zero, suc, ◌+◌, ◌-◌, ◌<◌, ◌++◌, ◌||◌, List, [], ◌∷◌, map, take, length, replicate, true, false, Bool, Option, Some, None, refl, sym, ap, ◌∙◌, arith}
+use Rattle.std.proofs.Common.{◌≡◌, ℕ, zero, suc, ◌+◌, ◌++◌, ◌||◌, List, [], ◌∷◌, map, take, length, replicate, true, false, Bool, Some, None, refl, sym, ap, ◌∙◌, arith}
 use Rattle.std.specs.Prelude.{max, min, slice_get}
 use Rattle.rx_fields.specs.Numbered.{LotParts}
 use Rattle.rx_fields.specs.declared.code.Code.{Code}

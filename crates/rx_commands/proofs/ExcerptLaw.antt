@@ -1,5 +1,5 @@
 -- A run on an excerpt answers the record as one on the whole job.
-use Rattle.std.proofs.Common.{◌≡◌, ℕ, zero, suc, ◌+◌, ◌-◌, ◌++◌, List, [], ◌∷◌, map, take, replicate, Option, Some, None, Ok, Result, sym, ap, subst, ◌∙◌, arith}
+use Rattle.std.proofs.Common.{◌≡◌, ℕ, zero, suc, ◌+◌, ◌-◌, ◌++◌, List, [], ◌∷◌, map, take, replicate, Some, None, Ok, Result, sym, ap, subst, ◌∙◌, arith}
 use Rattle.std.specs.Prelude.{slice_get, zip}
 use Rattle.std.specs.Option.{option_map}
 use Rattle.std.proofs.lemmas.Option.{slice_get-map}
@@ -22,11 +22,10 @@ use Rattle.rx_ledger.specs.Fold.{fold_ledger, fold_replies, reply_to}
 use Rattle.rx_ledger.specs.Ledger.{IsLedger, Ledger}
 use Rattle.rx_ledger.specs.Plan.{Plan}
 use Rattle.rx_response.specs.Response.{response_detail, response_details}
-use Rattle.rx_switch.specs.Job.{given_read}
-use Rattle.rx_switch.specs.Output.{Accepted, StandFor, replies}
+use Rattle.rx_switch.specs.Output.{Accepted}
 use Rattle.rx_wave.specs.Decoding.{transmissions_of}
 use Rattle.rx_commands.specs.ExcerptParts.{empty_detail, excerpt_details, excerpt_ledger, excerpt_plan}
-use Rattle.rx_commands.specs.Excerpts.{AnswerAlike, AreAccepted, AreTexts, Disputed, IsDisputed, answer_at, reply_of, request_of}
+use Rattle.rx_commands.specs.Excerpts.{AnswerAlike, AreAccepted, AreTexts, Disputed, IsDisputed, answer_at, request_of}
 use Rattle.rx_commands.proofs.EmptyRecords.{last_of, replicated, reply_at, reply_past}
 use Rattle.rx_commands.proofs.ExcerptLedgers.{fold_in_order, reply_on_excerpt}
 use Rattle.rx_commands.proofs.ExcerptPlans.{reply_under_excerpt}

@@ -1,8 +1,8 @@
 -- A record is answered under the plan of its excerpt as under the whole.
-use Rattle.std.proofs.Common.{◌≡◌, ℕ, ◌||◌, List, [], ◌∷◌, Bool, true, false, refl, sym, ap, subst, ◌∙◌, nat_eq}
+use Rattle.std.proofs.Common.{◌≡◌, ℕ, List, [], ◌∷◌, true, refl, ap, nat_eq}
 use Rattle.std.specs.List.{list_any}
 use Rattle.std.specs.Option.{option_map}
-use Rattle.std.specs.Ordering.{is_eq, nat_cmp}
+use Rattle.std.specs.Ordering.{nat_cmp}
 use Rattle.std.proofs.lemmas.Bool.{eq-eqb, or_left, or_right}
 use Rattle.rx_fields.specs.Numbered.{LotParts}
 use Rattle.rx_d0_values.specs.declared.transaction.Transaction.{Transaction}
@@ -13,7 +13,6 @@ use Rattle.rx_sorted.specs.Ascending.{has_key}
 use Rattle.rx_sorted.proofs.Filters.{find_filter}
 use Rattle.rx_sorted.proofs.KeyOrders.{number_exact}
 use Rattle.rx_sorted.proofs.Keys.{Equal-from_is_eq}
-use Rattle.rx_ledger.specs.declared.drug.Drug.{Drug}
 use Rattle.rx_ledger.specs.declared.figures.Figures.{Figures}
 use Rattle.rx_ledger.specs.declared.sheet.Listed.{Listed}
 use Rattle.rx_ledger.specs.Fold.{reply_to}

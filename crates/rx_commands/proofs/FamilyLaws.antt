@@ -1,16 +1,15 @@
 -- Of a family's claims: the sums up to one are those over it and the claims before it; they only grow.
-use Rattle.std.proofs.Common.{◌≡◌, ◌≤◌, ◌<◌, ℕ, ◌+◌, Bool, not, ◌&&◌, true, false, List, [], ◌∷◌, ◌++◌, map, refl, sym, ap, subst, ◌∙◌}
+use Rattle.std.proofs.Common.{◌≡◌, ◌≤◌, ◌<◌, ℕ, ◌+◌, Bool, not, true, false, List, [], ◌∷◌, ◌++◌, map, refl, sym, ap, subst, ◌∙◌}
 use Rattle.std.proofs.Common.{add-zero, append_assoc, arith, inl, inr}
 use Rattle.std.proofs.lemmas.Bool.{and_parts, cases_Bool, ltb-false, ltb-true}
 use Rattle.std.proofs.lemmas.List.{append-nil}
 use Rattle.std.proofs.lemmas.List.Sorted.{sum_by-IsPermutation}
 use Rattle.std.proofs.lemmas.List.Sums.{sum_by-append, sum_by-cons}
-use Rattle.std.specs.Prelude.{Option, Some, None, filter, nat_lt}
+use Rattle.std.specs.Prelude.{Some, filter, nat_lt}
 use Rattle.std.specs.List.{sum_by}
 use Rattle.rx_fields.specs.Numbered.{Span}
 use Rattle.rx_sorted.proofs.Keys.{Equal-from_is_eq}
 use Rattle.rx_ledger.specs.declared.row.Row.{Row}
-use Rattle.rx_ledger.specs.Members.{is_same}
 use Rattle.rx_ledger.specs.Sums.{counted, deductible_in, deductible_paid, family_deductible_in, out_of_pocket_in, paid_by_patient}
 use Rattle.rx_ledger.specs.Sums.{persons_deductible_paid}
 use Rattle.rx_ledger.proofs.CountedRows.{counted-other}

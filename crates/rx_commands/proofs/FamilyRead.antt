@@ -1,5 +1,5 @@
 -- A family, written as JSON, is read as its value.
-use Rattle.std.proofs.Common.{◌≡◌, ℕ, ℤ, suc, pos, ◌+◌, ◌^◌, ◌<◌, Bool, true, false, ◌==◌, if◌then◌else◌, List, [], ◌∷◌, ◌++◌}
+use Rattle.std.proofs.Common.{◌≡◌, ℕ, suc, pos, ◌+◌, ◌^◌, ◌<◌, Bool, true, false, ◌==◌, if◌then◌else◌, List, [], ◌∷◌, ◌++◌}
 use Rattle.std.proofs.Common.{length, Option, Some, None, codes, refl, ap, ◌∙◌, arith, append_assoc, FitsSigned, map}
 use Rattle.std.proofs.lemmas.Bool.{ne_eqb}
 use Rattle.std.proofs.lemmas.Fmt.{decimal_is_IsNumeral_wide}
@@ -10,16 +10,13 @@ use Rattle.json.specs.Lex.{lex}
 use Rattle.rx_d0_values.specs.Priced.{allowed, patient_pay, total_paid}
 use Rattle.rx_fields.specs.Calendar.{Civil, date_text}
 use Rattle.rx_fields.specs.Digits.{digits_text}
-use Rattle.rx_fields.specs.Numbered.{Span}
 use Rattle.rx_ledger.specs.declared.row.Row.{Row}
 use Rattle.rx_print.proofs.JsonPieces.{AreMembers, IsMember, IsText, array_is, closes, closes_after, closes_last, closes_line}
-use Rattle.rx_print.proofs.JsonPieces.{each_item_is, each_member_is, item_is, line_begins, member_is, members_are, named_is}
+use Rattle.rx_print.proofs.JsonPieces.{each_item_is, each_member_is, item_is, line_begins, member_is, named_is}
 use Rattle.rx_print.proofs.JsonPieces.{no_items_are, null_text_is, number_text_is, object_is, one_member_is, opens, text_at, text_is}
 use Rattle.rx_print.proofs.JsonWords.{is_name}
 use Rattle.rx_print.specs.Dates.{dashed}
-use Rattle.rx_print.specs.Escape.{escaped}
 use Rattle.rx_print.specs.JsonData.{Value, Null, Number, Text, array}
-use Rattle.rx_print.specs.declared.style.Style.TheVariants.{Json}
 use Rattle.rx_report.specs.LinesData.{count_data, known_data, text_data}
 use Rattle.rx_commands.specs.declared.family.cells.Column.{Column}
 use Rattle.rx_commands.specs.declared.family.cells.Column.TheVariants as column
@@ -28,7 +25,7 @@ use Rattle.rx_commands.specs.declared.family.families.FamilyMember.{FamilyMember
 use Rattle.rx_commands.specs.declared.family.families.Total.{Total}
 use Rattle.rx_commands.specs.declared.family.sums.Claim.{Claim}
 use Rattle.rx_commands.specs.FamilyCells.{left_cell, others, reached_cell}
-use Rattle.rx_commands.specs.FamilyData.{claim_data, day_data, family_data, member_data, reached_data, span_members, total_data}
+use Rattle.rx_commands.specs.FamilyData.{claim_data, day_data, family_data, member_data, reached_data, total_data}
 use Rattle.rx_commands.specs.FamilyTables.{claim_json, claims_json, comma_after, comma_member, day_json, family_json, head_json}
 use Rattle.rx_commands.specs.FamilyTables.{json_member, left_json, member_json, members_json, reached_json, span_json, total_json, totals_json}
 use Rattle.rx_report.specs.Texts.{quoted}

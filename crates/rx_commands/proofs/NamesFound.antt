@@ -19,13 +19,13 @@ use Rattle.rx_ledger.specs.Fold.{answers_from, fold_replies, ledger_after, ledge
 use Rattle.rx_ledger.specs.Ledger.{Ledger}
 use Rattle.rx_ledger.specs.Members.{is_same}
 use Rattle.rx_ledger.specs.Plan.{Plan}
-use Rattle.rx_explain.specs.Found.{found_at, found_in, is_wanted}
+use Rattle.rx_explain.specs.Found.{found_at, found_in, is_match}
 use Rattle.rx_explain.specs.Listed.{of_answers, of_batch, of_record}
 use Rattle.rx_explain.specs.Names.{AgreesBody, AreNames, DifferInNames, KeepsBody, Names, body_named, heard_named, ledger_named}
 use Rattle.rx_explain.specs.Names.{transaction_named}
 use Rattle.rx_explain.specs.Spots.{Spot, item, spot_at, spot_in}
 use Rattle.rx_explain.specs.declared.at.At.{At}
-use Rattle.rx_explain.specs.declared.finding.Wanted.{Wanted}
+use Rattle.rx_explain.specs.declared.finding.Query.{Query}
 use Rattle.rx_explain.proofs.NamesDecided.{pharmacy-same}
 use Rattle.rx_explain.proofs.NamesFolded.{Agree, AreBodies, InOrder, body-in_order, body-ledger}
 use Rattle.rx_commands.proofs.NamesReplies.{outcome-kept}
@@ -81,7 +81,7 @@ module _ (own : List ℕ) (n : Names) (keeps : n.pharmacy own ≡ own)
 
 -- ---- what is found
 
-module _ (w : Wanted) (q : At → Bool) where
+module _ (w : Query) (q : At → Bool) where
   -- of places that don't pass nothing is kept
   hidden-if : (b : Bool) (at : At) (rest : List At) → q at ≡ false → filter q ((if b then at ∷ [] else []) ++ rest) ≡ filter q rest
   hidden-if true at rest fails = rw fails refl
@@ -92,11 +92,11 @@ module _ (w : Wanted) (q : At → Bool) where
   hidden place h nth [] fails = refl
   hidden place h nth (a ∷ answers) fails =
       let at : At = record { place = place; nth = nth } in
-      hidden-if (is_wanted w at h a) at (of_answers (found_at w) place h (nth + 1) answers) (fails nth)
+      hidden-if (is_match w at h a) at (of_answers (found_at w) place h (nth + 1) answers) (fails nth)
       ∙ hidden place h (nth + 1) answers fails
 
 module _ (own : List ℕ) (lot : LotParts) (plan : Plan) (ts us : List Transmission) (L : Ledger) (n : Names)
-    (are : AreNames n) (w : Wanted) where
+    (are : AreNames n) (w : Query) where
   abbrev q : At → Bool
   q = is_own_at own ts
 
@@ -203,7 +203,7 @@ module _ (own : List ℕ) (plan : Plan) (ts us : List Transmission) (L M : Ledge
       let same : (1 + k) - 1 ≡ k = omega arith in
       rw more (ap (slice_get ts) same ∙ is)
 
-  pub found-alike : (lot : LotParts) (w : Wanted) → InOrder differ.names L
+  pub found-alike : (lot : LotParts) (w : Query) → InOrder differ.names L
       → filter (is_own_at own us) (found_in w 1 us (fold_replies lot plan 1 us M))
       ≡ filter (is_own_at own ts) (found_in w 1 ts (fold_replies lot plan 1 ts L))
   found-alike lot w is =

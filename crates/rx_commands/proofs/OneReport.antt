@@ -243,10 +243,10 @@ module _ (own sheet books batch other_books other_batch : List ℕ)
 
     -- ---- the lines that are kept, and the account
 
-    lines-told : r.lines.items ≡ map (with_reversed r.batch) (lines_of r.batch.asked.items r.batch.replies.items)
+    lines-are : r.lines.items ≡ map (with_reversed r.batch) (lines_of r.batch.asked.items r.batch.replies.items)
         → s.lines.items ≡ map (with_reversed s.batch) (lines_of s.batch.asked.items s.batch.replies.items)
         → filter (is_line_of own) r.lines.items ≡ filter (is_line_of own) s.lines.items
-    lines-told one other =
+    lines-are one other =
         ap (filter (is_line_of own)) (one ∙ (λ i. map f (lines_of (r-is.asked_are i) (r-is.replies_are i)))) ∙ alike.0
         ∙ sym (ap (filter (is_line_of own)) (other ∙ (λ i. map g (lines_of (s-is.asked_are i) (s-is.replies_are i)))))
 
@@ -311,16 +311,16 @@ one-report own sheet books batch other_books other_batch some d stamp f paged p 
     let s-is = is-other own sheet books batch other_books other_batch d some s second.reported in
     let kept : kept_of p r ≡ kept_of q s =
     own-kept own p p-is r.lines.items
-    ∙ lines-told own sheet books batch other_books other_batch d some r s r-is s-is first.reported.told.lines_are
-    second.reported.told.lines_are
+    ∙ lines-are own sheet books batch other_books other_batch d some r s r-is s-is first.reported.contents.lines_are
+    second.reported.contents.lines_are
     ∙ sym (own-kept own q q-is s.lines.items) in
     let any = any-same own sheet books batch other_books other_batch d some r s r-is s-is in
     let x = first.is_printed.in_form in
     let y = second.is_printed.in_form in
     let parts : map parts_of x.account.sections.items ≡ map parts_of y.account.sections.items =
-    parts-of-form own p p-is f (table_of_text sheet) r one.text.items first.reported.told.providers_are x
+    parts-of-form own p p-is f (table_of_text sheet) r one.text.items first.reported.contents.providers_are x
     ∙ (λ i. own-parts own (any i) (kept i))
-    ∙ sym (parts-of-form own q q-is f (table_of_text sheet) s other.text.items second.reported.told.providers_are y) in
+    ∙ sym (parts-of-form own q q-is f (table_of_text sheet) s other.text.items second.reported.contents.providers_are y) in
     let totals : x.account.total ≡ y.account.total =
     x.adds_up.total_is ∙ ap (λ ls. tally (map answer_of ls)) kept ∙ sym y.adds_up.total_is in
     let scopes = own-scope own p p-is in

@@ -20,7 +20,7 @@ use Rattle.rx_d0_values.specs.declared.reply.Reply.{Reply}
 use Rattle.rx_d0_values.specs.declared.transmission.Transmission.{Transmission}
 use Rattle.rx_explain.specs.Names.{Names, ledger_named}
 use Rattle.rx_explain.specs.declared.explanation.Explanation.{Explanation}
-use Rattle.rx_explain.specs.declared.finding.Wanted.{Wanted}
+use Rattle.rx_explain.specs.declared.finding.Query.{Query}
 use Rattle.rx_explain.proofs.NamesFolded.{InOrder}
 use Rattle.rx_explain_text.specs.Absent.{absent_for}
 use Rattle.rx_fields.specs.Numbered.{LotParts}
@@ -44,7 +44,7 @@ responses-same (Some bytes) one other (read, said, is) (again, too, was) =
 
 -- ---- a batch that was replayed, of a job
 
-record IsReplayed (plan : Plan) (opening : Ledger) (lot : LotParts) (details : List Detail) (tiers : SheetTable) (w : Wanted)
+record IsReplayed (plan : Plan) (opening : Ledger) (lot : LotParts) (details : List Detail) (tiers : SheetTable) (w : Query)
     (r : Retraced) : Type 0 where
   lot_is : r.lot ≡ lot
   figures_are : r.figures ≡ plan.figures
@@ -63,10 +63,10 @@ record Basis : Type 0 where
   opening : Ledger
   replies : List Reply
 
-abbrev Explains : Wanted → List (Option Explanation) → Basis → Type 0
+abbrev Explains : Query → List (Option Explanation) → Basis → Type 0
 Explains w xs b = AreExplained b.lot b.plan b.asked b.opening w b.replies xs
 
-replayed : (sheet books batch : List ℕ) (plan : Plan) (w : Wanted) (r : Retraced) (job : Job sheet books batch plan)
+replayed : (sheet books batch : List ℕ) (plan : Plan) (w : Query) (r : Retraced) (job : Job sheet books batch plan)
     → IsRetraced sheet books batch w r → IsReplayed plan job.opening job.head.lot job.details (table_of_text sheet) w r
 replayed sheet books batch plan w r job is =
     let plans : is.plan ≡ plan = good-same _ _ is.plan plan is.sheet_is job.sheet_is refl in
@@ -109,13 +109,13 @@ replayed sheet books batch plan w r job is =
 -- ---- the text
 
 -- where nothing is found a line that names the pharmacy
-texts-by : (found differs : Bool) (w : Wanted) (own shown absent : List ℕ)
+texts-by : (found differs : Bool) (w : Query) (own shown absent : List ℕ)
     → text_by (outcome_by found differs) w own (if found then shown else absent) ≡ (if found then shown else absent_for w own)
 texts-by true true w own shown absent = refl
 texts-by true false w own shown absent = refl
 texts-by false differs w own shown absent = refl
 
-printed-text : (own : List ℕ) (w : Wanted) (m : Manner) (r : Retraced) (file : Option Batch) (whole p : Printed)
+printed-text : (own : List ℕ) (w : Query) (m : Manner) (r : Retraced) (file : Option Batch) (whole p : Printed)
     → IsPrinted m r w file whole → IsWorded own w whole p
     → p.text.items ≡ (if is_found r w then shown_text m r w file else absent_for w own)
 printed-text own w m r file whole p printed worded =
@@ -125,7 +125,7 @@ printed-text own w m r file whole p printed worded =
 -- ---- two jobs
 
 module _ (own sheet books batch other_books other_batch : List ℕ)
-    (d : DifferElsewhere own sheet books batch other_books other_batch) (w : Wanted) (response : Option (List ℕ)) (m : Manner)
+    (d : DifferElsewhere own sheet books batch other_books other_batch) (w : Query) (response : Option (List ℕ)) (m : Manner)
     (p q : Printed) (one : PrintsFor sheet books batch own w response m p)
     (other : PrintsFor sheet other_books other_batch own w response m q) where
   abbrev tiers : SheetTable

@@ -168,7 +168,7 @@ own_counted sheet books batch whole r is own =
     let asked_long : length b.asked.items ≡ length b.replies.items =
     sym (ap length is.replies_are ∙ one_each b.lot b.sheet 1 b.asked.items b.opening.ledger) in
     let are : AreLinesOf r.lines.items (own_replies b) =
-    ap (map entry_of) (own.lines_are ∙ ap (filter (is_own_line b)) is.told.lines_are)
+    ap (map entry_of) (own.lines_are ∙ ap (filter (is_own_line b)) is.contents.lines_are)
     ∙ kept_there (is_own b) b (lines_of b.asked.items b.replies.items)
     ∙ records_there (is_own b) 1 b.asked.items b.replies.items asked_long
     ∙ ap entries_of (own_are b long) in

@@ -1,6 +1,6 @@
 -- The head and the details of a file have no STX and no ETX, so that they can be written again.
-use Rattle.std.proofs.Common.{◌≡◌, ℕ, zero, suc, ◌-◌, Bool, true, false, List, [], ◌∷◌, ◌++◌, drop, replicate, Option, Some, None, refl, sym, ap, subst, ◌∙◌}
-use Rattle.std.specs.Prelude.{◌&&◌, ◌==◌, All, codes, length, slice_get, slice_index, slice_range, if◌then◌else◌}
+use Rattle.std.proofs.Common.{◌≡◌, ℕ, zero, suc, ◌-◌, Bool, true, false, List, [], ◌∷◌, drop, replicate, Option, Some, None, refl, sym, ap, subst, ◌∙◌}
+use Rattle.std.specs.Prelude.{◌&&◌, ◌==◌, codes, length, slice_get, slice_index, slice_range, if◌then◌else◌}
 use Rattle.std.specs.List.{AllZip}
 use Rattle.std.proofs.lemmas.List.Elements.{All-append, All-cons, All-drop, All-nil, All-replicate, All-take}
 use Rattle.rx_batch.specs.Grammar.{IsDetail, IsFile, IsInside, IsSpaced, Spaced, is_mark}
@@ -9,7 +9,6 @@ use Rattle.rx_batch.specs.Writing.{IsPlain}
 use Rattle.rx_batch.specs.declared.detail.Detail.{Detail}
 use Rattle.rx_batch.specs.declared.head.FileType.{FileType}
 use Rattle.rx_batch.specs.declared.head.Head.{Head}
-use Rattle.rx_batch.specs.declared.head.Kind.{Kind}
 use Rattle.rx_batch.specs.declared.head.Kind.TheVariants.{Transmission}
 use Rattle.rx_batch.specs.declared.layout.TheConstants.{BATCH_NUMBER_AT, CREATION_DATE_AT, CREATION_TIME_AT}
 use Rattle.rx_fields.specs.Clock.{time_of}

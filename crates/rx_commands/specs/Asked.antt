@@ -4,8 +4,8 @@ use Rattle.std.specs.Str.Parse.{IsNumeral, digits_value}
 use Rattle.rx_fields.specs.Clock.{stamp_of}
 use Rattle.rx_fields.specs.Text.{id_of, trimmed}
 use Rattle.rx_fields.specs.declared.stamp.Stamp.{Stamp}
-use Rattle.rx_explain.specs.declared.finding.Wanted.{Wanted}
-use Rattle.rx_explain.specs.declared.finding.Wanted.TheVariants as wanted
+use Rattle.rx_explain.specs.declared.finding.Query.{Query}
+use Rattle.rx_explain.specs.declared.finding.Query.TheVariants as query
 use Rattle.rx_report.specs.declared.portion.Portion.{Portion}
 use Rattle.rx_report.specs.declared.portion.Portion.TheVariants as portion
 use Rattle.rx_switch.specs.declared.fault.SwitchFault.{SwitchFault}
@@ -16,23 +16,23 @@ abbrev pub IsDigits : List ℕ → ℕ → Type 0
 IsDigits text n = IsNumeral 10 text × (n ≡ digits_value 10 text)
 
 -- a place, or a place and the transaction's number in the record with a point between them
-abbrev pub AsksRecord : List ℕ → Wanted → Type 0
-AsksRecord text (wanted.Place n) = (n ≡ 0) ⊎ IsDigits text n
-AsksRecord text (wanted.One at) =
+abbrev pub AsksRecord : List ℕ → Query → Type 0
+AsksRecord text (query.Place n) = (n ≡ 0) ⊎ IsDigits text n
+AsksRecord text (query.One at) =
     (place : List ℕ) × (nth : List ℕ) × (text ≡ place ++ 46 ∷ nth) × IsDigits place at.place × IsDigits nth at.nth
 AsksRecord text other = ⊥
 
 -- an authorization number
-abbrev pub AsksNumber : List ℕ → Wanted → Type 0
-AsksNumber text (wanted.Place n) = n ≡ 0
-AsksNumber text (wanted.Number n) = IsDigits text n
+abbrev pub AsksNumber : List ℕ → Query → Type 0
+AsksNumber text (query.Place n) = n ≡ 0
+AsksNumber text (query.Number n) = IsDigits text n
 AsksNumber text other = ⊥
 
 -- a prescription reference number, and the pharmacy that is named, if one is
-abbrev pub AsksReference : List ℕ → Option (List ℕ) → Wanted → Type 0
-AsksReference text provider (wanted.Place n) = n ≡ 0
-AsksReference text None (wanted.Reference n) = IsDigits text n
-AsksReference text (Some id) (wanted.ReferenceAt n p) = IsDigits text n × (id_of 15 id ≡ Ok p)
+abbrev pub AsksReference : List ℕ → Option (List ℕ) → Query → Type 0
+AsksReference text provider (query.Place n) = n ≡ 0
+AsksReference text None (query.Reference n) = IsDigits text n
+AsksReference text (Some id) (query.ReferenceAt n p) = IsDigits text n × (id_of 15 id ≡ Ok p)
 AsksReference text provider other = ⊥
 
 -- the lines of the pharmacy, or of the family, with this id, without the blanks at its end

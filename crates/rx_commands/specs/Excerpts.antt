@@ -1,5 +1,5 @@
 -- Meaning: an excerpt of a job: what one record of its batch hangs on, as inputs of a run of their own.
-use Rattle.std.specs.Prelude.{◌≡◌, ℕ, ◌<◌, ◌==◌, if◌then◌else◌, List, length, Option, Some, None, Ok}
+use Rattle.std.specs.Prelude.{◌≡◌, ℕ, ◌==◌, if◌then◌else◌, List, Option, Some, None, Ok}
 use Rattle.rx_batch.specs.Grammar.{IsFile}
 use Rattle.rx_batch.specs.declared.batch.Batch.{Batch}
 use Rattle.rx_batch.specs.declared.detail.Detail.{Detail}
@@ -24,7 +24,7 @@ use Rattle.rx_fields.specs.declared.stamp.Stamp.{Stamp}
 use Rattle.rx_ledger.specs.Fold.{reply_to}
 use Rattle.rx_ledger.specs.Ledger.{Ledger}
 use Rattle.rx_ledger.specs.Plan.{Plan}
-use Rattle.rx_response.specs.Response.{response_detail, response_details}
+use Rattle.rx_response.specs.Response.{response_details}
 use Rattle.rx_sheet.specs.SheetText.{sheet_of_text}
 use Rattle.rx_switch.specs.Job.{given_read}
 use Rattle.rx_switch.specs.Output.{Accepted, StandFor, replies, stamp_for}

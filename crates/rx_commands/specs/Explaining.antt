@@ -14,8 +14,8 @@ use Rattle.rx_d0_values.specs.declared.transmission.Transmission.{Transmission}
 use Rattle.rx_explain.specs.Spots.{item}
 use Rattle.rx_explain.specs.declared.at.At.{At}
 use Rattle.rx_explain.specs.declared.explanation.Explanation.{Explanation}
-use Rattle.rx_explain.specs.declared.finding.Wanted.{Wanted}
-use Rattle.rx_explain.specs.declared.finding.Wanted.TheVariants as wanted
+use Rattle.rx_explain.specs.declared.finding.Query.{Query}
+use Rattle.rx_explain.specs.declared.finding.Query.TheVariants as query
 use Rattle.rx_explain_text.specs.Absent.{absent_line}
 use Rattle.rx_explain_text.specs.Json.{explanation_object, rejection_object}
 use Rattle.rx_explain_text.specs.Rejections.{rejection_words}
@@ -61,9 +61,9 @@ abbrev pub rejected_at : List Transmission → At → Option Rejected
 rejected_at asked at = rejected_of (item asked at.place) at.nth
 
 -- where a record, or one of its transactions, is asked for by its place
-abbrev pub place_asked : Wanted → Option At
-place_asked (wanted.Place place) = Some (record { place = place; nth = 1 })
-place_asked (wanted.One at) = Some at
+abbrev pub place_asked : Query → Option At
+place_asked (query.Place place) = Some (record { place = place; nth = 1 })
+place_asked (query.One at) = Some at
 place_asked other = None
 
 -- ---- the response file
@@ -114,7 +114,7 @@ option_text m r response None = []
 option_text m r response (Some x) = one_text m r x (compared_in r response x.at.place)
 
 -- of the record that is asked for, where its header is rejected, and of each explanation, in order
-abbrev pub shown_text : Manner → Retraced → Wanted → Option Batch → List ℕ
+abbrev pub shown_text : Manner → Retraced → Query → Option Batch → List ℕ
 shown_text m r w response =
     rejected_part m r response (place_asked w) ++ flat_map (option_text m r response) r.explanations.items
 
@@ -132,7 +132,7 @@ abbrev pub option_is_other : Retraced → Option Batch → Option Explanation �
 option_is_other r response None = false
 option_is_other r response (Some x) = is_other (compared_in r response x.at.place)
 
-abbrev pub is_any_other : Retraced → Wanted → Option Batch → Bool
+abbrev pub is_any_other : Retraced → Query → Option Batch → Bool
 is_any_other r w response =
     rejected_is_other r response (place_asked w) || list_any (option_is_other r response) r.explanations.items
 
@@ -142,13 +142,13 @@ abbrev pub rejected_is_found : Retraced → Option At → Bool
 rejected_is_found r None = false
 rejected_is_found r (Some at) = is_some (rejected_at r.asked.items at)
 
-abbrev pub is_found : Retraced → Wanted → Bool
+abbrev pub is_found : Retraced → Query → Bool
 is_found r w = rejected_is_found r (place_asked w) || list_any is_some r.explanations.items
 
 -- ---- the command
 
 -- these texts, or, if nothing is found, what isn't, and what the batch has
-abbrev pub text_if : Retraced → Wanted → Bool → List ℕ → List ℕ
+abbrev pub text_if : Retraced → Query → Bool → List ℕ → List ℕ
 text_if r w found text = if found then text else absent_line w (length r.details) r.near.items
 
 abbrev pub outcome_by : Bool → Bool → Outcome
@@ -156,7 +156,7 @@ outcome_by found differs =
     if found then (if differs then outcome.Differs else outcome.Done) else outcome.NotFound
 
 -- what was asked for is explained
-pub record IsPrinted (m : Manner) (r : Retraced) (w : Wanted) (response : Option Batch) (p : Printed) : Type 0 where
+pub record IsPrinted (m : Manner) (r : Retraced) (w : Query) (response : Option Batch) (p : Printed) : Type 0 where
   pub text_is : p.text.items ≡ text_if r w (is_found r w) (shown_text m r w response)
   pub outcome_is : p.outcome ≡ outcome_by (is_found r w) (is_any_other r w response)
 
@@ -165,14 +165,14 @@ abbrev pub IsFileOf : Option (List ℕ) → Option Batch → Type 0
 IsFileOf None file = file ≡ None
 IsFileOf (Some bytes) file = (read : Batch) × IsResponse bytes read.head read.details × (file ≡ Some read)
 
-pub record PrintsWith (r : Retraced) (w : Wanted) (response : Option (List ℕ)) (m : Manner) (p : Printed) : Type 0 where
+pub record PrintsWith (r : Retraced) (w : Query) (response : Option (List ℕ)) (m : Manner) (p : Printed) : Type 0 where
   pub file : Option Batch
   pub file_is : IsFileOf response file
   pub printed : IsPrinted m r w file p
 
 -- sheet, books and batch are accepted, and so is the response file, where its bytes are given; this is what is printed of
 -- the batch's transactions that are asked for
-pub record Prints (sheet books batch : List ℕ) (w : Wanted) (response : Option (List ℕ)) (m : Manner) (p : Printed) : Type 0 where
+pub record Prints (sheet books batch : List ℕ) (w : Query) (response : Option (List ℕ)) (m : Manner) (p : Printed) : Type 0 where
   pub retraced : Retraced
   pub retraced_is : IsRetraced sheet books batch w retraced
   pub printed : PrintsWith retraced w response m p

@@ -6,7 +6,7 @@ use Rattle.rx_explain.specs.Seen.{IsSeen}
 use Rattle.rx_explain.specs.Spots.{item}
 use Rattle.rx_explain.specs.declared.at.At.{At}
 use Rattle.rx_explain.specs.declared.explanation.Explanation.{Explanation}
-use Rattle.rx_explain.specs.declared.finding.Wanted.{Wanted}
+use Rattle.rx_explain.specs.declared.finding.Query.{Query}
 use Rattle.rx_explain_text.specs.Absent.{absent_for}
 use Rattle.rx_fields.specs.Text.{id_of}
 use Rattle.rx_fields.specs.declared.fault.IdFault.{IdFault}
@@ -51,7 +51,7 @@ own_asked provider (Some at) asked = if is_own_in provider (item asked at.place)
 -- ---- the command
 
 -- a batch that was replayed, as far as the pharmacy may see it
-pub record IsSeenRetraced (provider : List ℕ) (w : Wanted) (r s : Retraced) : Type 0 where
+pub record IsSeenRetraced (provider : List ℕ) (w : Query) (r s : Retraced) : Type 0 where
   pub lot_is : s.lot ≡ r.lot
   pub figures_are : s.figures ≡ r.figures
   pub tiers_are : s.tiers ≡ r.tiers
@@ -62,17 +62,17 @@ pub record IsSeenRetraced (provider : List ℕ) (w : Wanted) (r s : Retraced) : 
   pub near_are : s.near.items ≡ []
 
 -- where nothing is found, the line names the pharmacy and nothing of others
-abbrev pub text_by : Outcome → Wanted → List ℕ → List ℕ → List ℕ
+abbrev pub text_by : Outcome → Query → List ℕ → List ℕ → List ℕ
 text_by outcome.NotFound w provider text = absent_for w provider
 text_by outcome.Done w provider text = text
 text_by outcome.Differs w provider text = text
 
-pub record IsWorded (provider : List ℕ) (w : Wanted) (whole p : Printed) : Type 0 where
+pub record IsWorded (provider : List ℕ) (w : Query) (whole p : Printed) : Type 0 where
   pub outcome_is : p.outcome ≡ whole.outcome
   pub text_is : p.text.items ≡ text_by whole.outcome w provider whole.text.items
 
 -- what `explain` prints of the batch as far as the pharmacy may see it
-pub record PrintsSeen (r : Retraced) (provider : List ℕ) (w : Wanted) (response : Option (List ℕ)) (m : Manner) (p : Printed)
+pub record PrintsSeen (r : Retraced) (provider : List ℕ) (w : Query) (response : Option (List ℕ)) (m : Manner) (p : Printed)
     : Type 0 where
   pub seen : Retraced
   pub seen_is : IsSeenRetraced provider w r seen
@@ -81,7 +81,7 @@ pub record PrintsSeen (r : Retraced) (provider : List ℕ) (w : Wanted) (respons
   pub worded : IsWorded provider w whole p
 
 -- the same of sheet, books and batch, which are accepted
-pub record PrintsFor (sheet books batch provider : List ℕ) (w : Wanted) (response : Option (List ℕ)) (m : Manner) (p : Printed)
+pub record PrintsFor (sheet books batch provider : List ℕ) (w : Query) (response : Option (List ℕ)) (m : Manner) (p : Printed)
     : Type 0 where
   pub retraced : Retraced
   pub retraced_is : IsRetraced sheet books batch w retraced

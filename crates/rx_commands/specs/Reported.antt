@@ -21,7 +21,7 @@ use Rattle.rx_wave.specs.Decoding.{transmissions_of}
 
 -- the lines of the batch's answers, those of reversals with the members of their claims, and what its settlement says of each
 -- provider and of all
-pub record IsTold (asked : List Transmission) (replies : List Reply) (r : Report) : Type 0 where
+pub record HasContents (asked : List Transmission) (replies : List Reply) (r : Report) : Type 0 where
   pub lines_are : r.lines.items ≡ map (with_reversed r.batch) (lines_of asked replies)
   pub providers_are : r.settled.providers.entries ≡ tallies_of replies
   pub total_is : r.settled.total ≡ tally (answers_of replies)
@@ -46,7 +46,7 @@ pub record IsReported (sheet books batch : List ℕ) (r : Report) : Type 0 where
   pub asked_are : r.batch.asked.items ≡ transmissions_of r.batch.sheet.figures.door r.batch.details
   pub replies_are : r.batch.replies.items
       ≡ fold_replies r.batch.lot r.batch.sheet 1 r.batch.asked.items r.batch.opening.ledger
-  pub told : IsTold r.batch.asked.items r.batch.replies.items r
+  pub contents : HasContents r.batch.asked.items r.batch.replies.items r
 
 -- sheet and batch are accepted, and the text is the table of the batch's transmissions at the plan's door
 pub record IsTable (sheet batch text : List ℕ) : Type 0 where

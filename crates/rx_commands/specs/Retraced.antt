@@ -12,8 +12,8 @@ use Rattle.rx_explain.specs.Found.{found_in}
 use Rattle.rx_explain.specs.Spots.{spot_at}
 use Rattle.rx_explain.specs.declared.at.At.{At}
 use Rattle.rx_explain.specs.declared.explanation.Explanation.{Explanation}
-use Rattle.rx_explain.specs.declared.finding.Wanted.{Wanted}
-use Rattle.rx_explain.specs.declared.finding.Wanted.TheVariants as wanted
+use Rattle.rx_explain.specs.declared.finding.Query.{Query}
+use Rattle.rx_explain.specs.declared.finding.Query.TheVariants as query
 use Rattle.rx_ledger.specs.Fold.{fold_replies}
 use Rattle.rx_ledger.specs.Ledger.{Ledger}
 use Rattle.rx_ledger.specs.Plan.{Plan}
@@ -23,20 +23,20 @@ use Rattle.rx_wave.specs.Decoding.{transmissions_of}
 use Rattle.rx_commands.specs.declared.retraced.Retraced.{Retraced}
 
 -- of each transaction that is asked for, in order, its explanation
-abbrev pub AreExplained : LotParts → Plan → List Transmission → Ledger → Wanted → List Reply → List (Option Explanation)
+abbrev pub AreExplained : LotParts → Plan → List Transmission → Ledger → Query → List Reply → List (Option Explanation)
     → Type 0
 AreExplained lot plan asked opening w replies explanations =
     AllZip (λ at x. IsExplained lot plan asked opening at (spot_at asked at) x) (found_in w 1 asked replies) explanations
 
 -- what may be meant where nothing is found: the transactions of the record, or those of the prescription at any pharmacy
-abbrev pub near_in : Wanted → List Transmission → List Reply → List At
-near_in (wanted.One at) asked replies = found_in (wanted.Place at.place) 1 asked replies
-near_in (wanted.ReferenceAt reference provider) asked replies = found_in (wanted.Reference reference) 1 asked replies
+abbrev pub near_in : Query → List Transmission → List Reply → List At
+near_in (query.One at) asked replies = found_in (query.Place at.place) 1 asked replies
+near_in (query.ReferenceAt reference provider) asked replies = found_in (query.Reference reference) 1 asked replies
 near_in other asked replies = []
 
 -- sheet, books and batch are accepted; the tiers are the sheet's; these are what the batch asks at the plan's door, the
 -- replies of adjudicating that one record after another, and the explanations of what is asked for
-pub record IsRetraced (sheet books batch : List ℕ) (w : Wanted) (r : Retraced) : Type 0 where
+pub record IsRetraced (sheet books batch : List ℕ) (w : Query) (r : Retraced) : Type 0 where
   pub plan : Plan
   pub period : Span
   pub opening : Ledger

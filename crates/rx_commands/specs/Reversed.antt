@@ -38,15 +38,15 @@ with_reversed b l =
 abbrev pub place_of : Line → List At
 place_of l = if is_approved l.answer then at_of l ∷ [] else []
 
-abbrev pub member_told : Option Explanation → Option (List ℕ × List ℕ)
-member_told None = None
-member_told (Some x) = member_back x.decision
+abbrev pub member_of : Option Explanation → Option (List ℕ × List ℕ)
+member_of None = None
+member_of (Some x) = member_back x.decision
 
 abbrev pub first_member : List (Option Explanation) → Option (List ℕ × List ℕ)
 first_member [] = None
-first_member (x ∷ xs) = member_told x
+first_member (x ∷ xs) = member_of x
 
-abbrev pub told_lines : List Line → List (Option Explanation) → List Line
-told_lines [] xs = []
-told_lines (l ∷ ls) xs =
-    if is_approved l.answer then with_member l (first_member xs) ∷ told_lines ls (drop 1 xs) else l ∷ told_lines ls xs
+abbrev pub lines_with_members : List Line → List (Option Explanation) → List Line
+lines_with_members [] xs = []
+lines_with_members (l ∷ ls) xs =
+    if is_approved l.answer then with_member l (first_member xs) ∷ lines_with_members ls (drop 1 xs) else l ∷ lines_with_members ls xs

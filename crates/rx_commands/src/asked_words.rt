@@ -3,28 +3,28 @@ ghost use Rattle.std.specs.Option.{option_copied};
 ghost use Rattle.rx_commands.specs.Asked.{AsksFamily, AsksNumber, AsksProvider, AsksRecord, AsksReference, IsDigits, stamp_asked};
 ghost use Rattle.rx_commands.specs.Asked.{stamp_or_fault};
 
-use rx_explain::{At, Wanted};
+use rx_explain::{At, Query};
 use rx_fields::{Authorization, Provider, Reference, Stamp, trimmed};
 use rx_report::Portion;
 use rx_switch::SwitchFault;
 
 // Nothing: no record is at place 0.
-const NOTHING: Wanted = Wanted::Place(0);
+const NOTHING: Query = Query::Place(0);
 
 /// What `--record` asks for: the record at a place, as `4`, or one transaction of it, as `4.2`. A text that is neither asks
 /// for nothing.
-pub fn record_asked(text: &str) -> Wanted
+pub fn record_asked(text: &str) -> Query
     ensures { AsksRecord text.now result }
 {
     record_in(text).unwrap_or(NOTHING)
 }
 
-fn record_in(text: &str) -> Option<Wanted>
+fn record_in(text: &str) -> Option<Query>
     ensures { IfSome result (AsksRecord text.now) }
 {
     match text.split_once('.') {
-        None => Some(Wanted::Place(digits(text)?)),
-        Some((place, nth)) => Some(Wanted::One(At {
+        None => Some(Query::Place(digits(text)?)),
+        Some((place, nth)) => Some(Query::One(At {
             place: digits(place)?,
             nth: digits(nth)?,
         })),
@@ -32,35 +32,35 @@ fn record_in(text: &str) -> Option<Wanted>
 }
 
 /// What `--number` asks for: an authorization number. A text that is none asks for nothing.
-pub fn number_asked(text: &str) -> Wanted
+pub fn number_asked(text: &str) -> Query
     ensures { AsksNumber text.now result }
 {
     number_in(text).unwrap_or(NOTHING)
 }
 
-fn number_in(text: &str) -> Option<Wanted>
+fn number_in(text: &str) -> Option<Query>
     ensures { IfSome result (AsksNumber text.now) }
 {
-    Some(Wanted::Number(Authorization::new(digits(text)?)?))
+    Some(Query::Number(Authorization::new(digits(text)?)?))
 }
 
 /// What `--rx` asks for: a prescription reference number, of one pharmacy where `--provider` names it. Texts that aren't
 /// such ask for nothing.
-pub fn reference_asked(text: &str, provider: Option<&str>) -> Wanted
+pub fn reference_asked(text: &str, provider: Option<&str>) -> Query
     ensures { AsksReference text.now (option_copied provider.entry) result }
 {
     reference_in(text, provider).unwrap_or(NOTHING)
 }
 
-fn reference_in(text: &str, provider: Option<&str>) -> Option<Wanted>
+fn reference_in(text: &str, provider: Option<&str>) -> Option<Query>
     ensures { IfSome result (AsksReference text.now (option_copied provider.entry)) }
 {
     let reference = Reference::new(digits(text)?)?;
     match provider {
-        None => Some(Wanted::Reference(reference)),
+        None => Some(Query::Reference(reference)),
         Some(id) => {
             let provider = Provider::new(id.as_bytes()).ok()?;
-            Some(Wanted::ReferenceAt(reference, provider))
+            Some(Query::ReferenceAt(reference, provider))
         }
     }
 }

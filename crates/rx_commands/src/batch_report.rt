@@ -2,7 +2,7 @@ ghost use Rattle.std.specs.Prelude.{◌≡◌, ◌≤◌, IfErr, IfOk, length, m
 ghost use Rattle.rx_fields.specs.declared.limits.TheConstants.{MOST_DETAILS};
 ghost use Rattle.rx_commands.specs.Adjudicated.{IsAdjudicated};
 ghost use Rattle.rx_ledger.specs.Fold.{fold_replies};
-ghost use Rattle.rx_commands.specs.Reported.{IsReported, IsTold};
+ghost use Rattle.rx_commands.specs.Reported.{IsReported, HasContents};
 ghost use Rattle.rx_commands.specs.Reversed.{with_reversed};
 ghost use Rattle.rx_report.specs.Lines.{lines_of};
 ghost use Rattle.rx_switch.specs.Planned.{IsNotPlanned};
@@ -64,7 +64,7 @@ pub(crate) fn job_report<R: Threads + Sync>(
         batch,
     } = read_inputs(alloc, inputs)?;
     let answered = adjudicated(rt, alloc, sheet, books, batch)?;
-    let report = told(alloc, answered, stamp)?;
+    let report = report_of(alloc, answered, stamp)?;
     Ok(report)
 }
 
@@ -153,11 +153,11 @@ fn replies_to(
 }
 
 // What a batch is answered.
-fn told(alloc: Global, batch: Adjudicated, stamp: Option<Stamp>) -> Result<Report, Memory>
+fn report_of(alloc: Global, batch: Adjudicated, stamp: Option<Stamp>) -> Result<Report, Memory>
     requires { IsAdjudicated batch }
     ensures same { IfOk result (λ report. report.batch ≡ batch) }
     ensures stamp { IfOk result (λ report. report.stamp ≡ stamp) }
-    ensures told { IfOk result (λ report. IsTold batch.asked.items batch.replies.items report) }
+    ensures contents { IfOk result (λ report. HasContents batch.asked.items batch.replies.items report) }
 {
     let Ok(lines) = lines_of(alloc, &batch) else {
         drop(batch);

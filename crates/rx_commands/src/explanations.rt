@@ -13,7 +13,7 @@ use crate::record_words::{rejected_at, request_at};
 use crate::retraced::{Retraced, retrace};
 use rx_batch::Batch;
 use rx_d0_values::Rejected;
-use rx_explain::{At, Explanation, Wanted};
+use rx_explain::{At, Explanation, Query};
 use rx_explain_text::{
     Cited, Compared, Listing, absent_text, explanation_json, explanation_text, rejection_json,
     rejection_text,
@@ -40,17 +40,17 @@ pub fn explain<R: Threads + Sync>(
     rt: &R,
     alloc: Global,
     inputs: &Inputs<&[u8]>,
-    wanted: &Wanted,
+    query: &Query,
     response: Option<&[u8]>,
     manner: Manner,
 ) -> Result<Printed, ExplainFault>
     ensures printed { let given = inputs.now in IfOk result (Prints given.sheet.now given.books.now given.batch.now
-        wanted.now (option_copied response.entry) manner) }
+        query.now (option_copied response.entry) manner) }
     ensures refused { let given = inputs.now in IfErr result (IsNotExplained given.sheet.now given.books.now given.batch.now
         (option_copied response.entry)) }
 {
-    let retraced = retrace(rt, alloc, inputs, wanted)?;
-    let printed = printed_beside(alloc, &retraced, wanted, response, manner);
+    let retraced = retrace(rt, alloc, inputs, query)?;
+    let printed = printed_beside(alloc, &retraced, query, response, manner);
     drop(retraced);
     printed
 }
@@ -59,17 +59,17 @@ pub fn explain<R: Threads + Sync>(
 pub(crate) fn printed_beside(
     alloc: Global,
     retraced: &Retraced,
-    wanted: &Wanted,
+    query: &Query,
     response: Option<&[u8]>,
     manner: Manner,
 ) -> Result<Printed, ExplainFault>
-    ensures printed { IfOk result (PrintsWith retraced.now wanted.now (option_copied response.entry) manner) }
+    ensures printed { IfOk result (PrintsWith retraced.now query.now (option_copied response.entry) manner) }
     ensures refused { (sheet books batch : List ℕ)
         → IfErr result (IsNotExplained sheet books batch (option_copied response.entry)) }
 {
     match response {
-        None => printed_alone(alloc, retraced, wanted, manner),
-        Some(bytes) => printed_with(alloc, retraced, wanted, bytes, manner),
+        None => printed_alone(alloc, retraced, query, manner),
+        Some(bytes) => printed_with(alloc, retraced, query, bytes, manner),
     }
 }
 
@@ -77,10 +77,10 @@ pub(crate) fn printed_beside(
 fn printed_alone(
     alloc: Global,
     retraced: &Retraced,
-    wanted: &Wanted,
+    query: &Query,
     manner: Manner,
 ) -> Result<Printed, ExplainFault>
-    ensures printed { IfOk result (IsPrinted manner retraced.now wanted.now None) }
+    ensures printed { IfOk result (IsPrinted manner retraced.now query.now None) }
     ensures refused { (sheet books batch : List ℕ) → IfErr result (IsNotExplained sheet books batch None) }
 {
     let task = Task {
@@ -88,7 +88,7 @@ fn printed_alone(
         response: None,
         manner,
     };
-    let printed = printed_by(alloc, &task, wanted)?;
+    let printed = printed_by(alloc, &task, query)?;
     Ok(printed)
 }
 
@@ -96,11 +96,11 @@ fn printed_alone(
 fn printed_with(
     alloc: Global,
     retraced: &Retraced,
-    wanted: &Wanted,
+    query: &Query,
     bytes: &[u8],
     manner: Manner,
 ) -> Result<Printed, ExplainFault>
-    ensures printed { IfOk result (PrintsWith retraced.now wanted.now (Some bytes.now) manner) }
+    ensures printed { IfOk result (PrintsWith retraced.now query.now (Some bytes.now) manner) }
     ensures refused { (sheet books batch : List ℕ) → IfErr result (IsNotExplained sheet books batch (Some bytes.now)) }
 {
     let response = read_response(alloc, bytes)?;
@@ -109,7 +109,7 @@ fn printed_with(
         response: Some(&response),
         manner,
     };
-    let printed = printed_by(alloc, &task, wanted)?;
+    let printed = printed_by(alloc, &task, query)?;
     Ok(printed)
 }
 
@@ -123,21 +123,21 @@ struct Task<'a, 'b> {
 }
 
 // The text, and how the command ends.
-fn printed_by(alloc: Global, task: &Task<'_, '_>, wanted: &Wanted) -> Result<Printed, Memory>
-    ensures { IfOk result (IsPrinted task.now.manner task.now.retraced.now wanted.now (option_copied task.now.response)) }
+fn printed_by(alloc: Global, task: &Task<'_, '_>, query: &Query) -> Result<Printed, Memory>
+    ensures { IfOk result (IsPrinted task.now.manner task.now.retraced.now query.now (option_copied task.now.response)) }
 {
-    let Shown { text, differs } = show(alloc, task, wanted)?;
-    let is_found = is_found(task.retraced, wanted);
-    let text = text_if(alloc, task.retraced, wanted, is_found, text)?;
+    let Shown { text, differs } = show(alloc, task, query)?;
+    let is_found = is_found(task.retraced, query);
+    let text = text_if(alloc, task.retraced, query, is_found, text)?;
     let outcome = outcome_by(is_found, differs);
     Ok(Printed { text, outcome })
 }
 
 // Whether a transaction, or a record whose header is rejected, is what is asked for.
-fn is_found(retraced: &Retraced, wanted: &Wanted) -> bool
-    ensures { result ≡ is_found retraced.now wanted.now }
+fn is_found(retraced: &Retraced, query: &Query) -> bool
+    ensures { result ≡ is_found retraced.now query.now }
 {
-    rejected_is_found(retraced, place_asked(wanted)) || any_is_some(&retraced.explanations)
+    rejected_is_found(retraced, place_asked(query)) || any_is_some(&retraced.explanations)
 }
 
 fn rejected_is_found(retraced: &Retraced, at: Option<At>) -> bool
@@ -159,18 +159,18 @@ fn any_is_some(explanations: &[Option<Explanation>]) -> bool
 fn text_if(
     alloc: Global,
     retraced: &Retraced,
-    wanted: &Wanted,
+    query: &Query,
     is_found: bool,
     text: Vec<u8>,
 ) -> Result<Vec<u8>, Memory>
-    ensures { IfOk result (λ printed. printed.items ≡ text_if retraced.now wanted.now is_found text.items) }
+    ensures { IfOk result (λ printed. printed.items ≡ text_if retraced.now query.now is_found text.items) }
 {
     if is_found {
         return Ok(text);
     }
     drop(text);
     let records = retraced.details.as_slice().len();
-    absent_text(alloc, wanted, records, &retraced.near)
+    absent_text(alloc, query, records, &retraced.near)
 }
 
 fn outcome_by(is_found: bool, differs: bool) -> Outcome
@@ -215,31 +215,31 @@ fn is_other(compared: Option<Compared>) -> bool
 }
 
 // The record that was asked for, where its header is rejected, and the explanations.
-fn show(alloc: Global, task: &Task<'_, '_>, wanted: &Wanted) -> Result<Shown, Memory>
+fn show(alloc: Global, task: &Task<'_, '_>, query: &Query) -> Result<Shown, Memory>
     ensures text { let t = task.now in
-        IfOk result (λ shown. shown.text.items ≡ shown_text t.manner t.retraced.now wanted.now (option_copied t.response)) }
+        IfOk result (λ shown. shown.text.items ≡ shown_text t.manner t.retraced.now query.now (option_copied t.response)) }
     ensures differs { let t = task.now in
-        IfOk result (λ shown. shown.differs ≡ is_any_other t.retraced.now wanted.now (option_copied t.response)) }
+        IfOk result (λ shown. shown.differs ≡ is_any_other t.retraced.now query.now (option_copied t.response)) }
 {
     let mut shown = Shown {
         text: Vec::new(alloc),
         differs: false,
     };
-    put_rejection(alloc, &mut shown, task, place_asked(wanted))?;
+    put_rejection(alloc, &mut shown, task, place_asked(query))?;
     put_each(alloc, &mut shown, task, &task.retraced.explanations)?;
     Ok(shown)
 }
 
 /// Where a record, or one of its transactions, is asked for by its place.
-pub(crate) fn place_asked(wanted: &Wanted) -> Option<At>
-    ensures { result ≡ place_asked wanted.now }
+pub(crate) fn place_asked(query: &Query) -> Option<At>
+    ensures { result ≡ place_asked query.now }
 {
-    match wanted {
-        Wanted::Place(place) => Some(At {
+    match query {
+        Query::Place(place) => Some(At {
             place: *place,
             nth: 1,
         }),
-        Wanted::One(at) => Some(*at),
+        Query::One(at) => Some(*at),
         _ => None,
     }
 }

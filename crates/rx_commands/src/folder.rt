@@ -1,7 +1,7 @@
 ghost use Rattle.std.specs.Prelude.{IfErr, IfOk};
 ghost use Rattle.rx_commands.specs.Adjudicated.{IsAdjudicated};
 ghost use Rattle.rx_commands.specs.Folder.{ArePages, IsPrintedFolder, IsReportFolder};
-ghost use Rattle.rx_commands.specs.Reported.{IsTold};
+ghost use Rattle.rx_commands.specs.Reported.{HasContents};
 ghost use Rattle.rx_commands.specs.Tiers.{table_of_text};
 ghost use Rattle.rx_switch.specs.Planned.{IsNotPlanned};
 
@@ -57,7 +57,7 @@ fn folder_of(
     origin: Origin<'_>,
     sheet: &[u8],
 ) -> Result<PrintedFolder, Memory>
-    requires counted { IsTold report.now.batch.asked.items report.now.batch.replies.items report.now }
+    requires counted { HasContents report.now.batch.asked.items report.now.batch.replies.items report.now }
     requires adjudicated { IsAdjudicated report.now.batch }
     ensures { IfOk result (IsPrintedFolder portion.entry origin.entry (table_of_text sheet.now) report.now) }
 {

@@ -13,7 +13,7 @@ use crate::manner::Manner;
 use crate::printed::{Outcome, Printed};
 use crate::retraced::{Retraced, retrace};
 use rx_d0_values::Transmission;
-use rx_explain::{At, Explanation, Wanted, item};
+use rx_explain::{At, Explanation, Query, item};
 use rx_explain_text::absent_for_text;
 use rx_fields::{Memory, Provider};
 use rx_io::Inputs;
@@ -33,38 +33,38 @@ pub fn explain_for<R: Threads + Sync>(
     rt: &R,
     alloc: Global,
     inputs: &Inputs<&[u8]>,
-    wanted: &Wanted,
+    query: &Query,
     provider: &Provider,
     response: Option<&[u8]>,
     manner: Manner,
 ) -> Result<Printed, ExplainFault>
     ensures printed { let given = inputs.now in IfOk result (PrintsFor given.sheet.now given.books.now given.batch.now
-        provider.now wanted.now (option_copied response.entry) manner) }
+        provider.now query.now (option_copied response.entry) manner) }
     ensures refused { let given = inputs.now in IfErr result (IsNotExplained given.sheet.now given.books.now given.batch.now
         (option_copied response.entry)) }
 {
-    let retraced = retrace(rt, alloc, inputs, wanted)?;
-    printed_for(alloc, retraced, wanted, provider, response, manner)
+    let retraced = retrace(rt, alloc, inputs, query)?;
+    printed_for(alloc, retraced, query, provider, response, manner)
 }
 
 // The same of a batch that was replayed.
 fn printed_for(
     alloc: Global,
     retraced: Retraced,
-    wanted: &Wanted,
+    query: &Query,
     provider: &Provider,
     response: Option<&[u8]>,
     manner: Manner,
 ) -> Result<Printed, ExplainFault>
-    ensures printed { IfOk result (PrintsSeen retraced provider.now wanted.now (option_copied response.entry) manner) }
+    ensures printed { IfOk result (PrintsSeen retraced provider.now query.now (option_copied response.entry) manner) }
     ensures refused { (sheet books batch : List ℕ)
         → IfErr result (IsNotExplained sheet books batch (option_copied response.entry)) }
 {
-    let seen = seen_by(alloc, retraced, wanted, provider)?;
-    let whole = printed_beside(alloc, &seen, wanted, response, manner);
+    let seen = seen_by(alloc, retraced, query, provider)?;
+    let whole = printed_beside(alloc, &seen, query, response, manner);
     drop(seen);
     let whole = whole?;
-    let printed = worded(alloc, whole, wanted, provider)?;
+    let printed = worded(alloc, whole, query, provider)?;
     Ok(printed)
 }
 
@@ -72,16 +72,16 @@ fn printed_for(
 fn worded(
     alloc: Global,
     whole: Printed,
-    wanted: &Wanted,
+    query: &Query,
     provider: &Provider,
 ) -> Result<Printed, Memory>
-    ensures { IfOk result (IsWorded provider.now wanted.now whole) }
+    ensures { IfOk result (IsWorded provider.now query.now whole) }
 {
     let Printed { text, outcome } = whole;
     match outcome {
         Outcome::NotFound => {
             drop(text);
-            let text = absent_for_text(alloc, wanted, provider)?;
+            let text = absent_for_text(alloc, query, provider)?;
             Ok(Printed { text, outcome })
         }
         Outcome::Done | Outcome::Differs => Ok(Printed { text, outcome }),
@@ -92,10 +92,10 @@ fn worded(
 fn seen_by(
     alloc: Global,
     retraced: Retraced,
-    wanted: &Wanted,
+    query: &Query,
     provider: &Provider,
 ) -> Result<Retraced, Memory>
-    ensures { IfOk result (IsSeenRetraced provider.now wanted.now retraced) }
+    ensures { IfOk result (IsSeenRetraced provider.now query.now retraced) }
 {
     let Ok(explanations) = seen_each(alloc, &retraced.explanations, provider) else {
         drop(retraced);
@@ -111,7 +111,7 @@ fn seen_by(
         explanations: _,
         near: _,
     } = retraced;
-    let asked = own_asked(alloc, asked, place_asked(wanted), provider);
+    let asked = own_asked(alloc, asked, place_asked(query), provider);
     Ok(Retraced {
         lot,
         figures,

@@ -7,7 +7,7 @@ ghost use Rattle.rx_commands.specs.declared.manner.Manner.{Manner};
 ghost use Rattle.rx_commands.specs.declared.printed.Printed.{Printed};
 ghost use Rattle.rx_commands.specs.declared.report_forms.Form.{Form};
 ghost use Rattle.rx_commands.specs.declared.report_forms.PrintedReport.{PrintedReport};
-ghost use Rattle.rx_explain.specs.declared.finding.Wanted.{Wanted};
+ghost use Rattle.rx_explain.specs.declared.finding.Query.{Query};
 ghost use Rattle.rx_fields.specs.declared.stamp.Stamp.{Stamp};
 ghost use Rattle.rx_report.specs.declared.portion.Portion.{Portion};
 
@@ -17,9 +17,9 @@ ghost use Rattle.rx_report.specs.declared.portion.Portion.{Portion};
 pub fn others_names_leave_the_text()
     ensures { (own sheet books batch other_books other_batch : List ℕ)
         → DifferElsewhere own sheet books batch other_books other_batch
-        → (wanted : Wanted) → (response : Option (List ℕ)) → (manner : Manner) → (one other : Printed)
-        → PrintsFor sheet books batch own wanted response manner one
-        → PrintsFor sheet other_books other_batch own wanted response manner other → IsSamePrinted one other }
+        → (query : Query) → (response : Option (List ℕ)) → (manner : Manner) → (one other : Printed)
+        → PrintsFor sheet books batch own query response manner one
+        → PrintsFor sheet other_books other_batch own query response manner other → IsSamePrinted one other }
 {}
 
 /// What `report` prints for a pharmacy has nothing of these names either: two such jobs give the same text, with lines or

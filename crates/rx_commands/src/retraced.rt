@@ -17,7 +17,7 @@ use asked::asked_in;
 use rx_batch::Details;
 use rx_books_store::Books;
 use rx_d0_values::{Reply, Transmission};
-use rx_explain::{At, Events, Explanation, Wanted, find, item, place_at};
+use rx_explain::{At, Events, Explanation, Query, find, item, place_at};
 use rx_fields::{Lot, Memory};
 use rx_io::Inputs;
 use rx_ledger::{Figures, Sheet};
@@ -56,10 +56,10 @@ pub(crate) fn retrace<R: Threads + Sync>(
     rt: &R,
     alloc: Global,
     inputs: &Inputs<&[u8]>,
-    wanted: &Wanted,
+    query: &Query,
 ) -> Result<Retraced, SwitchFault>
     ensures retraced { let given = inputs.now in IfOk result (λ retraced.
-        IsRetraced given.sheet.now given.books.now given.batch.now wanted.now retraced) }
+        IsRetraced given.sheet.now given.books.now given.batch.now query.now retraced) }
     ensures refused { let given = inputs.now in
         IfErr result (λ fault. IsNotPlanned given.sheet.now given.books.now given.batch.now fault) }
 {
@@ -73,7 +73,7 @@ pub(crate) fn retrace<R: Threads + Sync>(
         return Err(SwitchFault::Memory);
     };
     let lot = batch.head.lot();
-    let answered = answer(alloc, lot, &sheet, books, &asked, wanted);
+    let answered = answer(alloc, lot, &sheet, books, &asked, query);
     let figures = *sheet.figures();
     drop(sheet);
     let Ok(answered) = answered else {
@@ -112,13 +112,13 @@ fn answer(
     sheet: &Sheet,
     books: Books,
     asked: &[Transmission],
-    wanted: &Wanted,
+    query: &Query,
 ) -> Result<Answered, Memory>
     requires { length asked.now ≤ MOST_DETAILS }
     ensures replies { IfOk result (λ a. a.replies.items ≡ fold_replies lot sheet.now 1 asked.now books.ledger) }
     ensures explained { IfOk result (λ a.
-        AreExplained lot sheet.now asked.now books.ledger wanted.now a.replies.items a.explanations.items) }
-    ensures near { IfOk result (λ a. a.near.items ≡ near_in wanted.now asked.now a.replies.items) }
+        AreExplained lot sheet.now asked.now books.ledger query.now a.replies.items a.explanations.items) }
+    ensures near { IfOk result (λ a. a.near.items ≡ near_in query.now asked.now a.replies.items) }
 {
     let opening = books.with_period(alloc, sheet.period())?;
     let batch = Batch {
@@ -127,13 +127,13 @@ fn answer(
         opening: &opening,
         asked,
     };
-    let replayed = replay_asked(alloc, &batch, wanted)?;
-    let explanations = explain_wanted(alloc, &batch, wanted, &replayed);
+    let replayed = replay_asked(alloc, &batch, query)?;
+    let explanations = explain_query(alloc, &batch, query, &replayed);
     drop(opening);
     let Replayed { replies, explained } = replayed;
     drop(explained);
     let explanations = explanations?;
-    let near = near_in(alloc, wanted, asked, &replies)?;
+    let near = near_in(alloc, query, asked, &replies)?;
     Ok(Answered {
         replies,
         explanations,
@@ -145,40 +145,40 @@ fn answer(
 #[tactic(auto, using(crate::proofs::Replied::one_each))]
 fn near_in(
     alloc: Global,
-    wanted: &Wanted,
+    query: &Query,
     asked: &[Transmission],
     replies: &[Reply],
 ) -> Result<Vec<At>, Memory>
     requires few { length asked.now ≤ MOST_DETAILS }
     requires each { length replies.now ≡ length asked.now }
-    ensures { IfOk result (λ near. near.items ≡ near_in wanted.now asked.now replies.now) }
+    ensures { IfOk result (λ near. near.items ≡ near_in query.now asked.now replies.now) }
 {
-    match wanted {
-        Wanted::One(at) => find(alloc, &Wanted::Place(at.place), asked, replies),
-        Wanted::ReferenceAt(reference, _) => {
-            find(alloc, &Wanted::Reference(*reference), asked, replies)
+    match query {
+        Query::One(at) => find(alloc, &Query::Place(at.place), asked, replies),
+        Query::ReferenceAt(reference, _) => {
+            find(alloc, &Query::Reference(*reference), asked, replies)
         }
         _ => Ok(Vec::new(alloc)),
     }
 }
 
 // The replies to the records, and what decided those that are asked for, as far as the requests say.
-fn replay_asked(alloc: Global, batch: &Batch<'_>, wanted: &Wanted) -> Result<Replayed, Memory>
+fn replay_asked(alloc: Global, batch: &Batch<'_>, query: &Query) -> Result<Replayed, Memory>
     requires { length batch.now.asked.now ≤ MOST_DETAILS }
     ensures replies { IfOk result (λ r.
         r.replies.items ≡ fold_replies batch.now.lot batch.now.sheet.now 1 batch.now.asked.now batch.now.opening.now.ledger) }
     ensures explained { IfOk result (λ r. All (λ k. AreDecided batch.now k.place k.facts.items) r.explained.items) }
 {
-    let places = asked_in(alloc, batch.lot, wanted, batch.asked)?;
+    let places = asked_in(alloc, batch.lot, query, batch.asked)?;
     replay(alloc, batch, &places)
 }
 
 // The explanations that are asked for, of a batch that was replayed.
 #[tactic(auto, using(crate::proofs::Replied::one_each))]
-fn explain_wanted(
+fn explain_query(
     alloc: Global,
     batch: &Batch<'_>,
-    wanted: &Wanted,
+    query: &Query,
     replayed: &Replayed,
 ) -> Result<Vec<Option<Explanation>>, Memory>
     requires few { length batch.now.asked.now ≤ MOST_DETAILS }
@@ -186,9 +186,9 @@ fn explain_wanted(
         ≡ fold_replies batch.now.lot batch.now.sheet.now 1 batch.now.asked.now batch.now.opening.now.ledger }
     requires explained { All (λ k. AreDecided batch.now k.place k.facts.items) replayed.now.explained.items }
     ensures { IfOk result (λ all. AreExplained batch.now.lot batch.now.sheet.now batch.now.asked.now
-        batch.now.opening.now.ledger wanted.now replayed.now.replies.items all.items) }
+        batch.now.opening.now.ledger query.now replayed.now.replies.items all.items) }
 {
-    let found = find(alloc, wanted, batch.asked, &replayed.replies)?;
+    let found = find(alloc, query, batch.asked, &replayed.replies)?;
     let events = Events::of(alloc, batch.asked, &replayed.replies)?;
     explain_found(alloc, batch, &events, &replayed.explained, &found)
 }

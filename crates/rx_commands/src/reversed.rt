@@ -2,7 +2,7 @@ ghost use Rattle.std.specs.Prelude.{◌≡◌, ◌++◌, IfOk, OnOk, drop, map};
 ghost use Rattle.std.specs.List.{flat_map};
 ghost use Rattle.rx_commands.specs.Adjudicated.{IsAdjudicated};
 ghost use Rattle.rx_settle.specs.Answers.{is_approved};
-ghost use Rattle.rx_commands.specs.Reversed.{first_member, member_back, place_of, told_lines, with_member, with_reversed};
+ghost use Rattle.rx_commands.specs.Reversed.{first_member, member_back, place_of, lines_with_members, with_member, with_reversed};
 
 use crate::replay::{Adjudicated, explanations};
 use rx_d0_values::Answer;
@@ -14,18 +14,18 @@ use std::alloc::{AllocError, Global};
 
 /// The lines of a batch's answers, where each approved reversal has the member of the claim that it takes back. Its request
 /// names none; so the decision on it says it, on the ledger before it.
-#[tactic(auto, using(crate::proofs::MembersBack::told_so))]
+#[tactic(auto, using(crate::proofs::MembersBack::with_members_is))]
 pub(crate) fn with_reversed(
     alloc: Global,
     batch: &Adjudicated,
     lines: &[Line],
 ) -> Result<Vec<Line>, Memory>
     requires { IsAdjudicated batch.now }
-    ensures { IfOk result (λ told. told.items ≡ map (with_reversed batch.now) lines.now) }
+    ensures { IfOk result (λ whole. whole.items ≡ map (with_reversed batch.now) lines.now) }
 {
     let places = reversals(alloc, lines)?;
     let explanations = explanations(alloc, batch, &places)?;
-    told_lines(alloc, lines, &explanations)
+    lines_with_members(alloc, lines, &explanations)
 }
 
 // Where the approved reversals stand.
@@ -59,24 +59,24 @@ fn is_approved(answer: &Answer) -> bool
 }
 
 // The lines, of which the approved reversals have these explanations, in order.
-fn told_lines(
+fn lines_with_members(
     alloc: Global,
     lines: &[Line],
     explanations: &[Option<Explanation>],
 ) -> Result<Vec<Line>, Memory>
-    ensures { IfOk result (λ told. told.items ≡ told_lines lines.now explanations.now) }
+    ensures { IfOk result (λ whole. whole.items ≡ lines_with_members lines.now explanations.now) }
 {
-    let mut told = Vec::with_capacity(alloc, lines.len())?;
+    let mut whole = Vec::with_capacity(alloc, lines.len())?;
     let mut left = explanations;
     for line in lines {
         if is_approved(&line.answer) {
-            told.push(with_member(line, first_member(left)))?;
-            left = behind_first(left);
+            whole.push(with_member(line, first_member(left)))?;
+            left = after_first(left);
         } else {
-            told.push(*line)?;
+            whole.push(*line)?;
         }
     }
-    Ok(told)
+    Ok(whole)
 }
 
 fn with_member(line: &Line, member: Option<(Id, Person)>) -> Line
@@ -97,7 +97,7 @@ fn first_member(explanations: &[Option<Explanation>]) -> Option<(Id, Person)>
     }
 }
 
-fn behind_first(explanations: &[Option<Explanation>]) -> &[Option<Explanation>]
+fn after_first(explanations: &[Option<Explanation>]) -> &[Option<Explanation>]
     ensures { result.now ≡ drop 1 explanations.now }
 {
     &explanations[explanations.len().min(1)..]

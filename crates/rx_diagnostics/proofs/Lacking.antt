@@ -80,10 +80,10 @@ first_or_none f (t ∷ ts) rise = elim (cases_Bool (is_before f t)) [
   | inr from ↦ rw from (elim (cases_Bool (is_eq (id_cmp t.family f))) [
     | inl own ↦ rw own refl
     | inr other ↦
-        let behind : id_cmp f t.family ≡ Less =
+        let is_above : id_cmp f t.family ≡ Less =
         Less-from_Greater id_cmp id_total total_family t.family f (greater (id_cmp t.family f) from other) in
         let none = item_at-below id_cmp id_total total_family f ts
-        (IsBelow-through id_cmp id_total total_family f t.family ts behind rise.0) in
+        (IsBelow-through id_cmp id_total total_family f t.family ts is_above rise.0) in
         rw other (ap is_some none)
   ])
 ]
@@ -115,16 +115,16 @@ module _ (ts : List TotalLine) (m : Member) (ms : List Member) (rise : Rise ts) 
   abbrev family : List ℕ
   family = m.key.family
 
-  told : has ts family ≡ is_first family (from_family family ts)
-  told = sym (kept family family ts (is_le-itself family)) ∙ first_or_none family ts rise
+  has_is : has ts family ≡ is_first family (from_family family ts)
+  has_is = sym (kept family family ts (is_le-itself family)) ∙ first_or_none family ts rise
 
   here : is_first family (from_family family ts) ≡ false → find (lacks_total ts) (m ∷ ms) ≡ Some m
-  here none = let lacks : has ts family ≡ false = told ∙ none in rw lacks refl
+  here none = let lacks : has ts family ≡ false = has_is ∙ none in rw lacks refl
 
   past : IsBelow member_cmp member_key m.key ms → is_first family (from_family family ts) ≡ true
       → find (lacks_total (from_family family ts)) ms ≡ find (lacks_total ts) (m ∷ ms)
   past below own =
-      let listed : has ts family ≡ true = told ∙ own in
+      let listed : has ts family ≡ true = has_is ∙ own in
       rw listed (same_search family ts ms (later m.key ms below))
 
 -- ---- members one after another

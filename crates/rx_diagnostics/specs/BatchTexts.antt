@@ -16,7 +16,7 @@ use Rattle.rx_fields.specs.Clock.{time_of}
 use Rattle.rx_fields.specs.Digits.{number_of}
 use Rattle.rx_text.specs.Bytes.{all_digits}
 use Rattle.rx_diagnostics.specs.Looks.{begins, has_mark, looks_like}
-use Rattle.rx_diagnostics.specs.Parts.{behind, body_at}
+use Rattle.rx_diagnostics.specs.Parts.{after_byte, body_at}
 use Rattle.rx_diagnostics.specs.Places.{starts_before}
 use Rattle.rx_diagnostics.specs.Quoting.{quoted_text}
 
@@ -35,7 +35,7 @@ abbrev pub ends_before : List ℕ → ℕ → Bool
 ends_before text at = bytes_eq (slice_range text (at - 1) at) (ETX ∷ [])
 
 abbrev pub outside_with : List ℕ → Option (List ℕ) → Bool → List ℕ
-outside_with there (Some kind) behind_end = there ++ (codes ": expected STX (X'02'); this looks like " ++ kind)
+outside_with there (Some kind) after_end = there ++ (codes ": expected STX (X'02'); this looks like " ++ kind)
 outside_with there None true =
     there ++ codes " after a record's ETX (X'03'): expected STX (X'02'); a record must not contain ETX"
 outside_with there None false = there ++ codes " where a record could begin: expected STX (X'02')"
@@ -59,7 +59,7 @@ no_header_text text at =
     if length text == 0 then codes "the file is empty: expected a header, which begins STX 00"
     else (if nat_le (length text) at then codes "the file ends before a header, which begins STX 00"
     else (codes "the first record begins "
-    ++ (quoted_text (take 2 (behind text at)) ++ codes ": expected a header, which begins \"00\"")))
+    ++ (quoted_text (take 2 (after_byte text at)) ++ codes ": expected a header, which begins \"00\"")))
 
 -- X'1A', with which some systems end a text
 abbrev pub is_end_mark : List ℕ → Bool
@@ -82,13 +82,13 @@ after_text text at =
 
 -- a field of a record whose STX stands at a place, with its own byte, and what is expected of it
 unfoldable pub field_text : ℕ → List ℕ → List ℕ → ℕ → ℕ → List ℕ → List ℕ
-field_text at name body start end wanted =
+field_text at name body start end expected =
     name ++ (codes " " ++ (quoted_text (slice_range body start end) ++ (codes " at byte "
-    ++ (decimal (at + start + 1) ++ (codes ": " ++ wanted)))))
+    ++ (decimal (at + start + 1) ++ (codes ": " ++ expected)))))
 
 -- why eight bytes are no date
-unfoldable pub date_wanted : List ℕ → List ℕ
-date_wanted date = if all_digits date then codes "no such date" else codes "expected 8 digits CCYYMMDD"
+unfoldable pub date_expected : List ℕ → List ℕ
+date_expected date = if all_digits date then codes "no such date" else codes "expected 8 digits CCYYMMDD"
 
 -- P for production, T for a test
 abbrev pub is_file_type : List ℕ → Bool
@@ -111,7 +111,7 @@ time_text at body =
 unfoldable pub date_text : ℕ → List ℕ → List ℕ
 date_text at body =
     if is_err (date_of (slice_range body CREATION_DATE_AT CREATION_TIME_AT))
-    then field_text at (codes "creation date") body CREATION_DATE_AT CREATION_TIME_AT (date_wanted (slice_range body CREATION_DATE_AT CREATION_TIME_AT))
+    then field_text at (codes "creation date") body CREATION_DATE_AT CREATION_TIME_AT (date_expected (slice_range body CREATION_DATE_AT CREATION_TIME_AT))
     else time_text at body
 
 -- from the batch number on
@@ -212,7 +212,7 @@ abbrev pub batch_text : List ℕ → BatchFault → List ℕ
 batch_text text (fault.Outside at) = outside_text text at
 batch_text text (fault.NoHeader at) = no_header_text text at
 batch_text text (fault.HeaderShape at) = header_text at (body_at text at)
-batch_text text (fault.Unclosed at) = unclosed_text at (behind text at)
+batch_text text (fault.Unclosed at) = unclosed_text at (after_byte text at)
 batch_text text (fault.RecordKind at) = kind_text (body_at text at)
 batch_text text (fault.DetailShape at) = detail_text (body_at text at)
 batch_text text (fault.TrailerShape at) = trailer_text at (body_at text at)

@@ -143,12 +143,12 @@ fault_in holds.Figure field = figure_fault field
 fault_in (holds.Digits count) field = digits_fault count field
 
 -- its number, its name, what stands there, and the fault
-abbrev pub told : ℕ → Field → List ℕ → List ℕ → List ℕ
-told number f text fault =
+abbrev pub fault_words : ℕ → Field → List ℕ → List ℕ → List ℕ
+fault_words number f text fault =
     codes "field " ++ (decimal number ++ (codes ", " ++ (name_of f ++ (codes " " ++ (quoted_text text ++ (codes ": " ++ fault))))))
 
 unfoldable pub field_fault : ℕ → Field → List ℕ → Option (List ℕ)
-field_fault number f text = option_map (told number f text) (fault_in (holds_of f) text)
+field_fault number f text = option_map (fault_words number f text) (fault_in (holds_of f) text)
 
 abbrev pub first_of : Option (List ℕ) → Option (List ℕ) → Option (List ℕ)
 first_of (Some text) other = Some text

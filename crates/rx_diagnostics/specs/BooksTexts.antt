@@ -171,9 +171,9 @@ fields_of kind.Total v = short_total_fields
 
 -- a line of another number of fields
 abbrev pub count_text : ℕ → LineKind → Version → ℕ → List ℕ
-count_text count k v wanted =
+count_text count k v expected =
     decimal count ++ (codes " fields: a " ++ (called k ++ (codes " line of version " ++ (decimal (digit_of v)
-    ++ (codes " has " ++ decimal wanted)))))
+    ++ (codes " has " ++ decimal expected)))))
 
 -- the number that a field is; 0 if it is none
 abbrev pub number_at : List ℕ → ℕ → ℕ

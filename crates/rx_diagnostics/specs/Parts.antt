@@ -24,8 +24,8 @@ abbrev pub fields : List ℕ → ℕ
 fields line = count_by (λ b. b == 124) line + 1
 
 -- what follows the byte at a place
-abbrev pub behind : List ℕ → ℕ → List ℕ
-behind text at = drop 1 (drop at text)
+abbrev pub after_byte : List ℕ → ℕ → List ℕ
+after_byte text at = drop 1 (drop at text)
 
 -- the bytes before the first one of this value, or all
 abbrev pub up_to : ℕ → List ℕ → List ℕ
@@ -33,4 +33,4 @@ up_to stop bytes = take (position_or_len (λ b. b == stop) bytes) bytes
 
 -- what a record holds whose STX stands at a place: up to the next ETX, or to the end
 abbrev pub body_at : List ℕ → ℕ → List ℕ
-body_at text at = up_to 3 (behind text at)
+body_at text at = up_to 3 (after_byte text at)

@@ -10,7 +10,7 @@ use Rattle.rx_sheet.specs.Names.{name_of}
 use Rattle.rx_diagnostics.specs.Likeness.{nearest}
 use Rattle.rx_diagnostics.specs.Quoting.{quoted_text}
 use Rattle.rx_diagnostics.specs.SheetNames.{names_in, names_text}
-use Rattle.rx_diagnostics.specs.SheetTexts.{wanted_at, wrong_text}
+use Rattle.rx_diagnostics.specs.SheetTexts.{expected_at, wrong_text}
 use Rattle.rx_diagnostics.specs.declared.sheet_drugs.Faulty.{Faulty}
 use Rattle.rx_diagnostics.specs.declared.sheet_drugs.Faulty.TheVariants as faulty
 use Rattle.rx_diagnostics.specs.SheetValues.{TellsOf, first_wrong, is_product, lacking, wrong_drug, wrong_price, wrong_share}
@@ -21,7 +21,7 @@ abbrev pub table_under : SheetKey → Members → Option Members
 table_under k sheet = option_and_then as_table (get_member (name_of k) sheet)
 
 abbrev pub no_table_text : SheetKey → List ℕ
-no_table_text k = name_of k ++ (codes " isn't a table: " ++ wanted_at k)
+no_table_text k = name_of k ++ (codes " isn't a table: " ++ expected_at k)
 
 -- what is said of a value: of a tier, named in quotes; of a drug, of its tier and of its price, by the drug's name
 unfoldable pub said_of : Faulty → List ℕ → List ℕ → List ℕ
@@ -35,7 +35,7 @@ said_of faulty.Drug name shown =
 said_of faulty.Tier name shown =
     codes "drug " ++ (name ++ (codes ": tier = " ++ (shown ++ codes ": expected the name of a tier in quotes, e.g. \"1\"")))
 said_of faulty.Price name shown =
-    codes "drug " ++ (name ++ (codes ": price = " ++ (shown ++ (codes ": " ++ wanted_at key.Price))))
+    codes "drug " ++ (name ++ (codes ": price = " ++ (shown ++ (codes ": " ++ expected_at key.Price))))
 
 -- ---- tiers and drugs
 
@@ -76,7 +76,7 @@ TellsTable k test (Some entries) said = TellsFirst k (first_wrong test entries) 
 -- ---- a drug's tier and price
 
 abbrev pub drugs_key_text : SheetKey → List ℕ
-drugs_key_text k = name_of k ++ (codes " of a drug is wrong: " ++ wanted_at k)
+drugs_key_text k = name_of k ++ (codes " of a drug is wrong: " ++ expected_at k)
 
 -- which tiers there are
 unfoldable pub tiers_text : List (List ℕ) → List ℕ
@@ -125,10 +125,10 @@ TellsPrice drugs said = TellsFirstPrice (option_and_then (first_wrong wrong_pric
 -- ---- a drug without a key
 
 abbrev pub lacking_key_text : SheetKey → List ℕ → List ℕ
-lacking_key_text k drug = codes "drug " ++ (drug ++ (codes ": " ++ (name_of k ++ (codes " is missing: " ++ wanted_at k))))
+lacking_key_text k drug = codes "drug " ++ (drug ++ (codes ": " ++ (name_of k ++ (codes " is missing: " ++ expected_at k))))
 
 abbrev pub missing_of_drug_text : SheetKey → List ℕ
-missing_of_drug_text k = name_of k ++ (codes " of a drug is missing: " ++ wanted_at k)
+missing_of_drug_text k = name_of k ++ (codes " of a drug is missing: " ++ expected_at k)
 
 abbrev pub lacking_text : SheetKey → Option (List ℕ × Data) → List ℕ
 lacking_text k None = missing_of_drug_text k

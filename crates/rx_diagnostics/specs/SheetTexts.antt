@@ -11,37 +11,37 @@ use Rattle.rx_sheet.specs.declared.fault.SheetFault.{SheetFault}
 use Rattle.rx_sheet.specs.declared.fault.SheetFault.TheVariants as fault
 
 -- an amount up to a limit, as this one
-abbrev pub cents_wanted : ℕ → List ℕ → List ℕ
-cents_wanted most example = codes "expected whole cents from 0 to " ++ (decimal most ++ (codes ", e.g. " ++ example))
+abbrev pub cents_expected : ℕ → List ℕ → List ℕ
+cents_expected most example = codes "expected whole cents from 0 to " ++ (decimal most ++ (codes ", e.g. " ++ example))
 
 -- a price of a drug
-abbrev pub price_wanted : List ℕ
-price_wanted = codes "expected hundredths of a cent per unit, a whole number from 0 to " ++ decimal MOST_PRICE
+abbrev pub price_expected : List ℕ
+price_expected = codes "expected hundredths of a cent per unit, a whole number from 0 to " ++ decimal MOST_PRICE
 
 -- what is expected under each key, in its order
-unfoldable pub wanted_at : SheetKey → List ℕ
-wanted_at key.Bin = codes "expected 6 digits in quotes, e.g. \"900001\""
-wanted_at key.Pcn = codes "expected 0 to 10 printable characters in quotes, e.g. \"RXDEMO\""
-wanted_at key.PeriodFirst = codes "expected 8 digits in quotes, e.g. \"20260101\""
-wanted_at key.PeriodLast = codes "expected 8 digits in quotes, e.g. \"20261231\""
-wanted_at key.MemberDeductible = cents_wanted MOST_LIMIT (codes "10000")
-wanted_at key.FamilyMaximum = cents_wanted MOST_LIMIT (codes "30000")
-wanted_at key.RefillPercent = codes "expected a whole number from 0 to 100, e.g. 75"
-wanted_at key.MaxDays = codes "expected a whole number from 1 to 999, e.g. 90"
-wanted_at key.Fee = cents_wanted MOST_CENTS (codes "150")
-wanted_at key.Tiers = codes "expected a table, e.g. [tiers] with a line 1 = 1000"
-wanted_at key.Drugs = codes "expected tables, e.g. [drugs.00001000101] with tier and price"
-wanted_at key.Tier = codes "expected the name of one of the tiers in quotes"
-wanted_at key.Price = price_wanted
-wanted_at key.FamilyDeductible = cents_wanted MOST_LIMIT (codes "10000")
+unfoldable pub expected_at : SheetKey → List ℕ
+expected_at key.Bin = codes "expected 6 digits in quotes, e.g. \"900001\""
+expected_at key.Pcn = codes "expected 0 to 10 printable characters in quotes, e.g. \"RXDEMO\""
+expected_at key.PeriodFirst = codes "expected 8 digits in quotes, e.g. \"20260101\""
+expected_at key.PeriodLast = codes "expected 8 digits in quotes, e.g. \"20261231\""
+expected_at key.MemberDeductible = cents_expected MOST_LIMIT (codes "10000")
+expected_at key.FamilyMaximum = cents_expected MOST_LIMIT (codes "30000")
+expected_at key.RefillPercent = codes "expected a whole number from 0 to 100, e.g. 75"
+expected_at key.MaxDays = codes "expected a whole number from 1 to 999, e.g. 90"
+expected_at key.Fee = cents_expected MOST_CENTS (codes "150")
+expected_at key.Tiers = codes "expected a table, e.g. [tiers] with a line 1 = 1000"
+expected_at key.Drugs = codes "expected tables, e.g. [drugs.00001000101] with tier and price"
+expected_at key.Tier = codes "expected the name of one of the tiers in quotes"
+expected_at key.Price = price_expected
+expected_at key.FamilyDeductible = cents_expected MOST_LIMIT (codes "10000")
 
 -- a key that isn't there
 abbrev pub missing_text : SheetKey → List ℕ
-missing_text k = name_of k ++ (codes " is missing: " ++ wanted_at k)
+missing_text k = name_of k ++ (codes " is missing: " ++ expected_at k)
 
 -- a key whose value isn't known
 abbrev pub wrong_text : SheetKey → List ℕ
-wrong_text k = name_of k ++ (codes " is wrong: " ++ wanted_at k)
+wrong_text k = name_of k ++ (codes " is wrong: " ++ expected_at k)
 
 abbrev pub no_memory_text : List ℕ
 no_memory_text = codes "out of memory"

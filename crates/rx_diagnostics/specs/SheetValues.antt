@@ -14,7 +14,7 @@ use Rattle.rx_sheet.specs.Names.{name_of}
 use Rattle.rx_sheet.specs.Values.{number}
 use Rattle.rx_text.specs.Bytes.{all_digits}
 use Rattle.rx_diagnostics.specs.Quoting.{quoted_text}
-use Rattle.rx_diagnostics.specs.SheetTexts.{wanted_at, wrong_text}
+use Rattle.rx_diagnostics.specs.SheetTexts.{expected_at, wrong_text}
 
 -- ---- values
 
@@ -34,7 +34,7 @@ TellsOf value text said = (shown : List ℕ) × (IsShown value shown × (said �
 
 -- KEY = VALUE: EXPECTED
 unfoldable pub value_text : SheetKey → List ℕ → List ℕ
-value_text k shown = name_of k ++ (codes " = " ++ (shown ++ (codes ": " ++ wanted_at k)))
+value_text k shown = name_of k ++ (codes " = " ++ (shown ++ (codes ": " ++ expected_at k)))
 
 -- the value of a key, if the sheet has one
 abbrev pub TellsValue : SheetKey → Option Data → List ℕ → Type 0

@@ -6,8 +6,8 @@ ghost use Rattle.rx_batch.specs.declared.fault.BatchFault.TheVariants as fault;
 ghost use Rattle.rx_diagnostics.specs.Places.{batch_place, unread_batch_place};
 
 use crate::batch_record::{
-    behind, body_at, count_words, detail_words, first_body, header_words, kind_words, number_words,
-    trailer_words, unclosed_words,
+    after_byte, body_at, count_words, detail_words, first_body, header_words, kind_words,
+    number_words, trailer_words, unclosed_words,
 };
 use crate::looks::{has_mark, looks_like};
 use crate::place::{Place, front, starts_before};
@@ -138,7 +138,7 @@ fn said_of(alloc: Global, fault: BatchFault, text: &[u8]) -> Result<String, Allo
         BatchFault::Outside { at } => outside_words(alloc, text, at),
         BatchFault::NoHeader { at } => no_header_words(alloc, text, at),
         BatchFault::HeaderShape { at } => header_words(alloc, at, body_at(text, at)),
-        BatchFault::Unclosed { at } => unclosed_words(alloc, at, behind(text, at)),
+        BatchFault::Unclosed { at } => unclosed_words(alloc, at, after_byte(text, at)),
         BatchFault::RecordKind { at } => kind_words(alloc, body_at(text, at)),
         BatchFault::DetailShape { at } => detail_words(alloc, body_at(text, at)),
         BatchFault::TrailerShape { at } => trailer_words(alloc, at, body_at(text, at)),
@@ -232,12 +232,12 @@ fn outside_with(
     alloc: Global,
     there: &str,
     kind: Option<&'static str>,
-    behind_end: bool,
+    after_end: bool,
 ) -> Result<String, AllocError>
     ensures { IfOk result (λ said. string_bytes said
-        ≡ outside_with there.now (option_map (λ k. k.now) kind.entry) behind_end) }
+        ≡ outside_with there.now (option_map (λ k. k.now) kind.entry) after_end) }
 {
-    match (kind, behind_end) {
+    match (kind, after_end) {
         (Some(kind), _) => format!(in alloc;
             "{there}: expected STX (X'02'); this looks like {kind}"
         ),
@@ -264,7 +264,7 @@ fn no_header_words(alloc: Global, text: &[u8], at: u64) -> Result<String, AllocE
     if at as usize >= text.len() {
         return said(alloc, "the file ends before a header, which begins STX 00");
     }
-    let there = quoted(alloc, front(behind(text, at), 2))?;
+    let there = quoted(alloc, front(after_byte(text, at), 2))?;
     format!(in alloc; "the first record begins {there}: expected a header, which begins \"00\"")
 }
 

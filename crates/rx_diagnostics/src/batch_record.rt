@@ -1,9 +1,9 @@
 ghost use Rattle.std.specs.Prelude.{◌≡◌, ◌==◌, IfOk, string_bytes};
 ghost use Rattle.std.specs.List.{position_or_len};
-ghost use Rattle.rx_diagnostics.specs.BatchTexts.{count_text, date_text, date_wanted, detail_text, field_text, fields_text};
+ghost use Rattle.rx_diagnostics.specs.BatchTexts.{count_text, date_text, date_expected, detail_text, field_text, fields_text};
 ghost use Rattle.rx_diagnostics.specs.BatchTexts.{file_type_text, first_body, header_text, is_file_type, kind_text, lot_text};
 ghost use Rattle.rx_diagnostics.specs.BatchTexts.{number_text, time_text, to_mark, trailer_text, unclosed_text};
-ghost use Rattle.rx_diagnostics.specs.Parts.{behind, body_at, up_to};
+ghost use Rattle.rx_diagnostics.specs.Parts.{after_byte, body_at, up_to};
 
 use crate::place::front;
 use crate::quoting::{from, part, quoted};
@@ -16,8 +16,8 @@ use rx_text::all_digits;
 use std::alloc::{AllocError, Global};
 
 /// The bytes after the one at a place.
-pub(crate) fn behind(text: &[u8], at: u64) -> &[u8]
-    ensures { result.now ≡ behind text.now at }
+pub(crate) fn after_byte(text: &[u8], at: u64) -> &[u8]
+    ensures { result.now ≡ after_byte text.now at }
 {
     from(from(text, at as usize), 1)
 }
@@ -26,7 +26,7 @@ pub(crate) fn behind(text: &[u8], at: u64) -> &[u8]
 pub(crate) fn body_at(text: &[u8], at: u64) -> &[u8]
     ensures { result.now ≡ body_at text.now at }
 {
-    up_to(behind(text, at), ETX)
+    up_to(after_byte(text, at), ETX)
 }
 
 /// What the first record of a text holds.
@@ -156,7 +156,7 @@ fn date_words(alloc: Global, at: u64, body: &[u8]) -> Result<String, AllocError>
             body,
             start,
             end,
-            date_wanted(date),
+            date_expected(date),
         )
     } else {
         time_words(alloc, at, body)
@@ -169,7 +169,7 @@ fn time_words(alloc: Global, at: u64, body: &[u8]) -> Result<String, AllocError>
     ensures { IfOk result (λ said. string_bytes said ≡ time_text at body.now) }
 {
     if Time::new(part(body, CREATION_TIME_AT, 46)).is_none() {
-        let wanted = "expected HHMM from 0000 to 2359";
+        let expected = "expected HHMM from 0000 to 2359";
         field_words(
             alloc,
             at,
@@ -177,7 +177,7 @@ fn time_words(alloc: Global, at: u64, body: &[u8]) -> Result<String, AllocError>
             body,
             CREATION_TIME_AT,
             46,
-            wanted,
+            expected,
         )
     } else {
         file_type_words(alloc, at, body)
@@ -203,9 +203,9 @@ fn is_file_type(file: &[u8]) -> bool
 }
 
 // Why eight bytes are no date.
-#[tactic(auto, unfolding(crate::specs::BatchTexts::date_wanted))]
-fn date_wanted(date: &[u8]) -> &'static str
-    ensures { result.now ≡ date_wanted date.now }
+#[tactic(auto, unfolding(crate::specs::BatchTexts::date_expected))]
+fn date_expected(date: &[u8]) -> &'static str
+    ensures { result.now ≡ date_expected date.now }
 {
     if all_digits(date) {
         "no such date"
@@ -223,13 +223,13 @@ fn field_words(
     body: &[u8],
     start: usize,
     end: usize,
-    wanted: &str,
+    expected: &str,
 ) -> Result<String, AllocError>
-    ensures { IfOk result (λ said. string_bytes said ≡ field_text at name.now body.now start end wanted.now) }
+    ensures { IfOk result (λ said. string_bytes said ≡ field_text at name.now body.now start end expected.now) }
 {
     let field = quoted(alloc, part(body, start, end))?;
     let byte = u128::from(at) + start as u128 + 1;
-    format!(in alloc; "{name} {field} at byte {byte}: {wanted}")
+    format!(in alloc; "{name} {field} at byte {byte}: {expected}")
 }
 
 /// What is said of a trailer: its length, or its first number that is none.

@@ -123,15 +123,15 @@ fn fields_words(
     line: &[u8],
     kind: LineKind,
     version: Version,
-    wanted: &[Field],
+    expected: &[Field],
 ) -> Result<String, AllocError>
-    ensures { IfOk result (λ said. string_bytes said ≡ line_fields_text line.now kind version wanted.now) }
+    ensures { IfOk result (λ said. string_bytes said ≡ line_fields_text line.now kind version expected.now) }
 {
     let count = fields(line);
-    if count != wanted.len() + 1 {
-        return count_words(alloc, count, kind, version, wanted.len() + 1);
+    if count != expected.len() + 1 {
+        return count_words(alloc, count, kind, version, expected.len() + 1);
     }
-    match first_fault(alloc, line, wanted)? {
+    match first_fault(alloc, line, expected)? {
         Some(said) => Ok(said),
         None => figures_words(alloc, line, version),
     }
@@ -144,13 +144,13 @@ fn count_words(
     count: usize,
     kind: LineKind,
     version: Version,
-    wanted: usize,
+    expected: usize,
 ) -> Result<String, AllocError>
-    ensures { IfOk result (λ said. string_bytes said ≡ count_text count kind version wanted) }
+    ensures { IfOk result (λ said. string_bytes said ≡ count_text count kind version expected) }
 {
     let kind = kind.name();
     let digit = digit_of(version);
-    format!(in alloc; "{count} fields: a {kind} line of version {digit} has {wanted}")
+    format!(in alloc; "{count} fields: a {kind} line of version {digit} has {expected}")
 }
 
 // The digit of a version.

@@ -70,10 +70,10 @@ fn figure_words(alloc: Global, printed: &Printed, number: u64) -> Result<String,
     if let (Some(member), Some(figure)) = (members.get(place), printed.deductibles().get(place)) {
         return member_words(alloc, printed, member, *figure);
     }
-    let behind = place
+    let after_rows = place
         .saturating_sub(members.len())
         .saturating_sub(rows.len());
-    match printed.totals().get(behind) {
+    match printed.totals().get(after_rows) {
         Some(line) => total_words(alloc, printed, line),
         None => lacking_words(alloc, printed, first_lacking(members, printed.totals())),
     }

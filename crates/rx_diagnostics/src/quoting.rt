@@ -115,14 +115,14 @@ fn piece(text: &[u8], separator: u8, number: u64) -> &[u8]
     if number == 0 {
         return &[];
     }
-    match piece_behind(text, separator, number - 1) {
+    match piece_after(text, separator, number - 1) {
         Some(piece) => piece,
         None => &[],
     }
 }
 
 // The piece after this many others.
-fn piece_behind(text: &[u8], separator: u8, others: u64) -> Option<&[u8]>
+fn piece_after(text: &[u8], separator: u8, others: u64) -> Option<&[u8]>
     ensures { option_copied result ≡ slice_get (cut separator text.now) others }
 {
     text.split(|b| *b == separator).nth(others as usize)

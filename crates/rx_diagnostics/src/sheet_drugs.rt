@@ -17,7 +17,7 @@ ghost use Rattle.rx_diagnostics.specs.SheetValues.{TellsOf, first_wrong, is_prod
 
 use crate::likeness::nearest;
 use crate::quoting::{quoted, said};
-use crate::sheet_keys::{key_words, name_of, wanted_at, wrong_key};
+use crate::sheet_keys::{expected_at, key_words, name_of, wrong_key};
 use crate::sheet_names::{names_in, names_words};
 use crate::sheet_values::{found, is_number, shown_value, table_at};
 use rx_fields::MOST_CENTS;
@@ -243,8 +243,8 @@ fn said_of(alloc: Global, faulty: Faulty, name: &str, shown: &str) -> Result<Str
             "drug {name}: tier = {shown}: expected the name of a tier in quotes, e.g. \"1\""
         ),
         Faulty::Price => {
-            let wanted = wanted_at(alloc, SheetKey::Price)?;
-            format!(in alloc; "drug {name}: price = {shown}: {wanted}")
+            let expected = expected_at(alloc, SheetKey::Price)?;
+            format!(in alloc; "drug {name}: price = {shown}: {expected}")
         }
     }
 }
@@ -272,8 +272,8 @@ fn no_table(alloc: Global, key: SheetKey) -> Result<String, AllocError>
     ensures { IfOk result (λ said. string_bytes said ≡ no_table_text key) }
 {
     let name = name_of(key);
-    let wanted = wanted_at(alloc, key)?;
-    format!(in alloc; "{name} isn't a table: {wanted}")
+    let expected = expected_at(alloc, key)?;
+    format!(in alloc; "{name} isn't a table: {expected}")
 }
 
 // What is said of the first that is wrong.
@@ -480,8 +480,8 @@ fn wrong_of_drug(alloc: Global, key: SheetKey) -> Result<String, AllocError>
     ensures { IfOk result (λ said. string_bytes said ≡ drugs_key_text key) }
 {
     let name = name_of(key);
-    let wanted = wanted_at(alloc, key)?;
-    format!(in alloc; "{name} of a drug is wrong: {wanted}")
+    let expected = expected_at(alloc, key)?;
+    format!(in alloc; "{name} of a drug is wrong: {expected}")
 }
 
 // What is said of the first drug without a key.
@@ -503,18 +503,18 @@ fn lacking_key(alloc: Global, key: SheetKey, drug: &str) -> Result<String, Alloc
     ensures { IfOk result (λ said. string_bytes said ≡ lacking_key_text key drug.now) }
 {
     let name = name_of(key);
-    let wanted = wanted_at(alloc, key)?;
-    format!(in alloc; "drug {drug}: {name} is missing: {wanted}")
+    let expected = expected_at(alloc, key)?;
+    format!(in alloc; "drug {drug}: {name} is missing: {expected}")
 }
 
 fn missing_of_drug(alloc: Global, key: SheetKey) -> Result<String, AllocError>
     ensures { IfOk result (λ said. string_bytes said ≡ missing_of_drug_text key) }
 {
-    let wanted = wanted_at(alloc, key)?;
+    let expected = expected_at(alloc, key)?;
     key_words(
         alloc,
         name_of(key),
         " of a drug is missing: ",
-        wanted.as_str(),
+        expected.as_str(),
     )
 }

@@ -6,7 +6,7 @@ ghost use Rattle.rx_sheet.specs.Values.{number, whole};
 ghost use Rattle.rx_diagnostics.specs.SheetValues.{IsShown, TellsOf, backwards_text, no_date_text, value_text};
 
 use crate::quoting::quoted;
-use crate::sheet_keys::{name_of, wanted_at};
+use crate::sheet_keys::{expected_at, name_of};
 use rx_ledger::SheetKey;
 use std::alloc::{AllocError, Global};
 use toml::{Table, Value};
@@ -44,8 +44,8 @@ pub(crate) fn expected_words(
     ensures { IfOk result (λ said. string_bytes said ≡ value_text key shown.now) }
 {
     let name = name_of(key);
-    let wanted = wanted_at(alloc, key)?;
-    format!(in alloc; "{name} = {shown}: {wanted}")
+    let expected = expected_at(alloc, key)?;
+    format!(in alloc; "{name} = {shown}: {expected}")
 }
 
 /// What is said of eight digits that are no date.

@@ -35,7 +35,7 @@ module _ {K : Type 0} (cmp : K → K → Ordering) (order : IsTotalOrder cmp) wh
     | inl before ↦ rw before refl
     | inr (inl tied) ↦
         absurd (let e : true ≡ false = sym (ap is_lt (order.congr i j k tied ∙ less)) ∙ above in cc)
-    | inr (inr behind) ↦ rw behind refl
+    | inr (inr over) ↦ rw over refl
   ]
 
   none : (j k : K) (ks : List K) → cmp j k ≡ Less → AllByRecursion (λ i. is_lt (cmp i k) ≡ false) ks → times cmp j ks ≡ 0

@@ -12,13 +12,13 @@ rest_is : {X : Type 0} (list : List X) (at : ℕ) (x : X) → at < length list �
 rest_is list at x within is = rw add-one (drop-cons list at x within) ∙ ap (λ u. u ∷ drop (at + 1) list) (sym is)
 
 -- what was reported before it is followed by what is said of it, and of those after it
-pub of_batch_next : {X : Type 0} (told : Heard → At → Answer → List X) (ts : List Transmission) (rs : List Reply) (at : ℕ)
+pub of_batch_next : {X : Type 0} (listed : Heard → At → Answer → List X) (ts : List Transmission) (rs : List Reply) (at : ℕ)
     (t : Transmission) (r : Reply) → at < length ts → at < length rs → t ≡ get_or ts at t → r ≡ get_or rs at r
     → (done : List X)
-    → (done ++ of_record told (at + 1) t.body r.outcome) ++ of_batch told (at + 1 + 1) (drop (at + 1) ts) (drop (at + 1) rs)
-    ≡ done ++ of_batch told (at + 1) (drop at ts) (drop at rs)
-of_batch_next told ts rs at t r in_ts in_rs t_is r_is done =
-    append_assoc done (of_record told (at + 1) t.body r.outcome) _
+    → (done ++ of_record listed (at + 1) t.body r.outcome) ++ of_batch listed (at + 1 + 1) (drop (at + 1) ts) (drop (at + 1) rs)
+    ≡ done ++ of_batch listed (at + 1) (drop at ts) (drop at rs)
+of_batch_next listed ts rs at t r in_ts in_rs t_is r_is done =
+    append_assoc done (of_record listed (at + 1) t.body r.outcome) _
     ∙ ap (λ x. done ++ x)
-    (ap (λ xs. of_batch told (at + 1) xs (r ∷ drop (at + 1) rs)) (sym (rest_is ts at t in_ts t_is))
-    ∙ ap (λ ys. of_batch told (at + 1) (drop at ts) ys) (sym (rest_is rs at r in_rs r_is)))
+    (ap (λ xs. of_batch listed (at + 1) xs (r ∷ drop (at + 1) rs)) (sym (rest_is ts at t in_ts t_is))
+    ∙ ap (λ ys. of_batch listed (at + 1) (drop at ts) ys) (sym (rest_is rs at r in_rs r_is)))

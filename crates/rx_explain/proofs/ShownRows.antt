@@ -187,26 +187,26 @@ module _ (L : Ledger) where
     -- ---- all that are shown
 
     module _ (lot : LotParts) (plan : Plan) (events : List Event) (at : At) (s : Spot) where
-      abbrev IsTold : Traced → Type 0
-      IsTold t = (t ≡ traced events at t.row) × Stands t.row
+      abbrev IsTraced : Traced → Type 0
+      IsTraced t = (t ≡ traced events at t.row) × Stands t.row
 
-      told_one : (o : Option Row) (t : Traced) → IfSome o Stands → option_map (traced events at) o ≡ Some t → IsTold t
-      told_one None t stands is = cc
-      told_one (Some r) t stands is =
+      traced_one : (o : Option Row) (t : Traced) → IfSome o Stands → option_map (traced events at) o ≡ Some t → IsTraced t
+      traced_one None t stands is = cc
+      traced_one (Some r) t stands is =
           let same : traced events at r ≡ t = cc in
-          subst (λ (u : Traced). IsTold u) same (refl, stands)
+          subst (λ (u : Traced). IsTraced u) same (refl, stands)
 
-      pub shown_stands : (x : Explanation) (t : Traced) → IsOnLedger lot plan L events at s x → IsShown x t → IsTold t
+      pub shown_stands : (x : Explanation) (t : Traced) → IsOnLedger lot plan L events at s x → IsShown x t → IsTraced t
       shown_stands x t is (inl decided) =
           let a = asked lot plan at.place s.heard at.nth in
           let names : NamesStanding x.decision =
           subst (λ (d : Decision). NamesStanding d) (sym is.decision_is) (decision_names a s.transaction) in
-          told_one (row_in plan.figures s.heard.provider s.heard.date L s.transaction x.decision) t
+          traced_one (row_in plan.figures s.heard.provider s.heard.date L s.transaction x.decision) t
           (row_in_stands plan.figures s.heard.provider s.heard.date s.transaction x.decision names) (sym is.standing_is ∙ decided)
       shown_stands x t is (inr listed) =
           let rows = counted_for plan.figures.period L s.transaction x.decision in
           let all : All Stands rows = counted_stand plan.figures.period s.transaction x.decision in
-          let told : All IsTold (map (traced events at) rows) =
-          All-map IsTold (traced events at) rows (λ i d within. (refl, all i d within)) in
-          All-contains IsTold (map (traced events at) rows) t told
+          let all_traced : All IsTraced (map (traced events at) rows) =
+          All-map IsTraced (traced events at) rows (λ i d within. (refl, all i d within)) in
+          All-contains IsTraced (map (traced events at) rows) t all_traced
           (subst (λ (ts : List Traced). Contains ts t) is.counted_are listed)

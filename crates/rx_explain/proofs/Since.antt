@@ -82,10 +82,10 @@ module _ (lot : LotParts) (plan : Plan) (test : Event → Bool) where
   pub turned_one : (x : Step) (L : Ledger) → find test (reverse (events_at lot plan L x)) ≡ find test (events_at lot plan L x)
   turned_one x L = ap (find test) (alone x.spot.heard x.at _)
 
-  pub found_behind : (x : Step) (xs : List Step) (L : Ledger)
+  pub found_after : (x : Step) (xs : List Step) (L : Ledger)
       → find test (reverse (events_by lot plan L (x ∷ xs)))
       ≡ option_or (find test (reverse (events_by lot plan (next lot plan L x) xs))) (find test (events_at lot plan L x))
-  found_behind x xs L =
+  found_after x xs L =
       let first = events_at lot plan L x in
       let rest = events_by lot plan (next lot plan L x) xs in
       ap (find test) (reverse-append first rest) ∙ find-append test (reverse rest) (reverse first)
@@ -95,7 +95,7 @@ module _ (lot : LotParts) (plan : Plan) (test : Event → Bool) where
       → find test (reverse (events_by lot plan L xs)) ≡ None
   none_found [] L fails = refl
   none_found (x ∷ xs) L fails =
-      found_behind x xs L
+      found_after x xs L
       ∙ none_or _ _ (none_found xs (next lot plan L x) (λ y more. fails y (inr more)))
       (step_fails x L (fails x (inl refl)))
 
@@ -189,9 +189,9 @@ module _ (lot : LotParts) (plan : Plan) (ts : List Transmission) (opening : Ledg
       pays_it = rest.pays_it;
       stood = λ y among later up. elim among [
         | inl here ↦ absurd
-            (let behind : at_cmp x.at rest.payer.at ≡ Less = below_each x.at xs rest.payer rising rest.is_among in
+            (let above : at_cmp x.at rest.payer.at ≡ Less = below_each x.at xs rest.payer rising rest.is_among in
             let later_than : at_cmp rest.payer.at x.at ≡ Less = ap (λ (z : Step). at_cmp rest.payer.at z.at) here ∙ later in
-            let e : Greater ≡ Less = sym (turned x.at rest.payer.at behind) ∙ later_than in
+            let e : Greater ≡ Less = sym (turned x.at rest.payer.at above) ∙ later_than in
             cc)
         | inr more ↦ rest.stood y more later up
       ];
@@ -219,5 +219,5 @@ module _ (lot : LotParts) (plan : Plan) (ts : List Transmission) (opening : Ledg
       )
   since (x ∷ xs) L rising placed (inr more) stands =
       let rest = since xs (next lot plan L x) rising.1 placed.1 more stands in
-      subst (From L (x ∷ xs)) (sym (found_behind lot plan pays x xs L))
+      subst (From L (x ∷ xs)) (sym (found_after lot plan pays x xs L))
       (earlier x xs L rising.0 placed.0.is_on (below_each x.at xs this rising.0 more) _ rest)

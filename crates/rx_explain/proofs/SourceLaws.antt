@@ -13,7 +13,7 @@ use Rattle.rx_explain.specs.declared.at.At.{At}
 use Rattle.rx_explain.specs.declared.events.Event.{Event}
 use Rattle.rx_explain.specs.declared.traced.Source.TheVariants as source
 use Rattle.rx_explain.specs.Sources.{IsBefore, IsPaidAt, IsTakenBackAt, StandsAfter, StandsBefore, StandsBetween, StandsUpTo}
-use Rattle.rx_explain.specs.Sources.{TakesBack, told}
+use Rattle.rx_explain.specs.Sources.{TakesBack, traced_at}
 use Rattle.rx_explain.specs.Spots.{Spot, spot_at}
 use Rattle.rx_explain.specs.Traces.{source_at}
 use Rattle.rx_explain.proofs.Flattened.{Step, events_by, events_by_steps, ledger_by_steps, next, steps_of}
@@ -43,8 +43,8 @@ module _ (lot : LotParts) (plan : Plan) (ts : List Transmission) (opening : Ledg
     paid_by_found : (o : Option Event) → From lot plan ts opening this r opening (steps_of 1 ts) o → (paid : At)
         → source_at (at_of o) ≡ source.Record paid
         → IsBefore paid at × IsPaidAt lot plan ts opening r paid × StandsBetween lot plan ts opening paid at r
-    paid_by_found None from paid told_is = cc
-    paid_by_found (Some e) from paid told_is =
+    paid_by_found None from paid traced_is = cc
+    paid_by_found (Some e) from paid traced_is =
         let here : from.payer.at ≡ paid = from.at_is ∙ (cc) in
         subst
         (λ (p : At). IsBefore p at × IsPaidAt lot plan ts opening r p × StandsBetween lot plan ts opening p at r)
@@ -56,9 +56,9 @@ module _ (lot : LotParts) (plan : Plan) (ts : List Transmission) (opening : Ledg
 
     opening_found : (o : Option Event) → From lot plan ts opening this r opening (steps_of 1 ts) o
         → source_at (at_of o) ≡ source.Opening → (row_under opening r.key ≡ Some r) × StandsUpTo lot plan ts opening at r
-    opening_found None from told_is =
+    opening_found None from traced_is =
         (from.0, λ other u u_is up. from.1 (record { at = other; spot = u }) (among ts other u u_is) up)
-    opening_found (Some e) from told_is = cc
+    opening_found (Some e) from traced_is = cc
 
     from_batch : From lot plan ts opening this r opening (steps_of 1 ts)
         (find (pays lot plan ts opening this r) (reverse (events_by lot plan opening (steps_of 1 ts))))
@@ -66,19 +66,19 @@ module _ (lot : LotParts) (plan : Plan) (ts : List Transmission) (opening : Ledg
         since lot plan ts opening this r (steps_of 1 ts) opening (steps_rise 1 ts) (steps_placed lot plan ts opening)
         (among ts at s is) stands
 
-    source_is : (told lot plan ts opening at r).source
+    source_is : (traced_at lot plan ts opening at r).source
         ≡ source_at (at_of (find (pays lot plan ts opening this r) (reverse (events_by lot plan opening (steps_of 1 ts)))))
     source_is =
         ap (λ (es : List Event). source_at (at_of (find (pays lot plan ts opening this r) (reverse es))))
         (events_by_steps lot plan 1 ts opening)
 
-    pub paid_by : (paid : At) → (told lot plan ts opening at r).source ≡ source.Record paid
+    pub paid_by : (paid : At) → (traced_at lot plan ts opening at r).source ≡ source.Record paid
         → IsBefore paid at × IsPaidAt lot plan ts opening r paid × StandsBetween lot plan ts opening paid at r
-    paid_by paid told_is = paid_by_found _ from_batch paid (sym source_is ∙ told_is)
+    paid_by paid traced_is = paid_by_found _ from_batch paid (sym source_is ∙ traced_is)
 
-    pub from_opening : (told lot plan ts opening at r).source ≡ source.Opening
+    pub from_opening : (traced_at lot plan ts opening at r).source ≡ source.Opening
         → (row_under opening r.key ≡ Some r) × StandsUpTo lot plan ts opening at r
-    from_opening told_is = opening_found _ from_batch (sym source_is ∙ told_is)
+    from_opening traced_is = opening_found _ from_batch (sym source_is ∙ traced_is)
 
     -- ---- its end
 
@@ -86,8 +86,8 @@ module _ (lot : LotParts) (plan : Plan) (ts : List Transmission) (opening : Ledg
       taken_by_found : (o : Option Event) → To lot plan ts opening this r opening (steps_of 1 ts) o → (back : At)
           → at_of o ≡ Some back
           → IsBefore at back × IsTakenBackAt lot plan ts opening r back × StandsBetween lot plan ts opening at back r
-      taken_by_found None to back told_is = cc
-      taken_by_found (Some e) to back told_is =
+      taken_by_found None to back traced_is = cc
+      taken_by_found (Some e) to back traced_is =
           let here : to.taker.at ≡ back = to.at_is ∙ (cc) in
           subst
           (λ (p : At). IsBefore at p × IsTakenBackAt lot plan ts opening r p × StandsBetween lot plan ts opening at p r)
@@ -100,11 +100,11 @@ module _ (lot : LotParts) (plan : Plan) (ts : List Transmission) (opening : Ledg
       stands_found : (o : Option Event) → To lot plan ts opening this r opening (steps_of 1 ts) o
           → at_of o ≡ None
           → StandsAfter lot plan ts opening at r × (row_under (fold_ledger lot plan 1 ts opening) r.key ≡ Some r)
-      stands_found None to told_is = (
+      stands_found None to traced_is = (
         λ other u u_is later. to.0 (record { at = other; spot = u }) (among ts other u u_is) later,
         ap (λ M. row_under M r.key) (ledger_by_steps lot plan 1 ts opening) ∙ to.1,
       )
-      stands_found (Some e) to told_is = cc
+      stands_found (Some e) to traced_is = cc
 
       to_end : To lot plan ts opening this r opening (steps_of 1 ts)
           (find (returns lot plan ts opening this r) (events_by lot plan opening (steps_of 1 ts)))
@@ -112,16 +112,16 @@ module _ (lot : LotParts) (plan : Plan) (ts : List Transmission) (opening : Ledg
           until lot plan ts opening this r (steps_of 1 ts) opening (steps_rise 1 ts) (steps_placed lot plan ts opening)
           (among ts at s is) stands leaves
 
-      end_is : (told lot plan ts opening at r).taken_back
+      end_is : (traced_at lot plan ts opening at r).taken_back
           ≡ at_of (find (returns lot plan ts opening this r) (events_by lot plan opening (steps_of 1 ts)))
       end_is =
           ap (λ (es : List Event). at_of (find (returns lot plan ts opening this r) es))
           (events_by_steps lot plan 1 ts opening)
 
-      pub taken_by : (back : At) → (told lot plan ts opening at r).taken_back ≡ Some back
+      pub taken_by : (back : At) → (traced_at lot plan ts opening at r).taken_back ≡ Some back
           → IsBefore at back × IsTakenBackAt lot plan ts opening r back × StandsBetween lot plan ts opening at back r
-      taken_by back told_is = taken_by_found _ to_end back (sym end_is ∙ told_is)
+      taken_by back traced_is = taken_by_found _ to_end back (sym end_is ∙ traced_is)
 
-      pub stands_on : (told lot plan ts opening at r).taken_back ≡ None
+      pub stands_on : (traced_at lot plan ts opening at r).taken_back ≡ None
           → StandsAfter lot plan ts opening at r × (row_under (fold_ledger lot plan 1 ts opening) r.key ≡ Some r)
-      stands_on told_is = stands_found _ to_end (sym end_is ∙ told_is)
+      stands_on traced_is = stands_found _ to_end (sym end_is ∙ traced_is)

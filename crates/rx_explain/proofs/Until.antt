@@ -72,9 +72,9 @@ module _ (lot : LotParts) (plan : Plan) (ts : List Transmission) (opening : Ledg
   )
 
   -- where it took nothing back, what is found is found after it
-  behind : (x : Step) (xs : List Step) (L : Ledger) → find returns (events_at lot plan L x) ≡ None
+  found_later : (x : Step) (xs : List Step) (L : Ledger) → find returns (events_at lot plan L x) ≡ None
       → find returns (events_by lot plan L (x ∷ xs)) ≡ find returns (events_by lot plan (next lot plan L x) xs)
-  behind x xs L none =
+  found_later x xs L none =
       find-append returns (events_at lot plan L x) (events_by lot plan (next lot plan L x) xs)
       ∙ ap (λ o. option_or o (find returns (events_by lot plan (next lot plan L x) xs))) none
 
@@ -121,7 +121,7 @@ module _ (lot : LotParts) (plan : Plan) (ts : List Transmission) (opening : Ledg
     | inr (inl t) ↦ by_return x xs L rising.0 placed.0.is_on below.0 is t
     | inr (inr q) ↦
         let rest = onwards xs (next lot plan L x) below.1 rising.1 placed.1 (q.now ∙ is) in
-        subst (To L (x ∷ xs)) (sym (behind x xs L (silent x L q)))
+        subst (To L (x ∷ xs)) (sym (found_later x xs L (silent x L q)))
         (longer x xs L (λ later. ap (λ M. row_under M r.key) placed.0.is_on ∙ is) _ rest)
   ]
 
@@ -149,12 +149,12 @@ module _ (lot : LotParts) (plan : Plan) (ts : List Transmission) (opening : Ledg
       ] in
       let below : IsBelowAll this.at xs = subst (λ (z : Step). IsBelowAll z.at xs) same rising.0 in
       let rest = onwards xs (next lot plan L x) below rising.1 placed.1 after_it in
-      subst (To L (x ∷ xs)) (sym (behind x xs L (none_yet x L other)))
+      subst (To L (x ∷ xs)) (sym (found_later x xs L (none_yet x L other)))
       (longer x xs L
       (λ later. absurd (not_before_itself this.at (ap (λ (z : Step). at_cmp this.at z.at) (sym same) ∙ later))) _ rest)
   until (x ∷ xs) L rising placed (inr more) stands leaves =
       let earlier = below_each x.at xs this rising.0 more in
       let other : at_cmp this.at x.at ≡ Greater = turned x.at this.at earlier in
       let rest = until xs (next lot plan L x) rising.1 placed.1 more stands leaves in
-      subst (To L (x ∷ xs)) (sym (behind x xs L (none_yet x L (ap is_lt other))))
+      subst (To L (x ∷ xs)) (sym (found_later x xs L (none_yet x L (ap is_lt other))))
       (longer x xs L (λ later. absurd (let e : Greater ≡ Less = sym other ∙ later in cc)) _ rest)

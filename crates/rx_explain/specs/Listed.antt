@@ -11,12 +11,12 @@ use Rattle.rx_d0_values.specs.declared.transmission.Transmission.{Transmission}
 use Rattle.rx_explain.specs.declared.at.At.{At}
 
 -- what is said of the answer to a transaction of a record that is accepted, at its place
-module _ {X : Type 0} (told : HeardRecord → At → Answer → List X) where
+module _ {X : Type 0} (listed : HeardRecord → At → Answer → List X) where
   -- of those to the record at this place, from the nth on
   abbrev pub of_answers : ℕ → HeardRecord → ℕ → List Answer → List X
   of_answers place h nth [] = []
   of_answers place h nth (a ∷ more) =
-      told h (record { place = place; nth = nth }) a ++ of_answers place h (nth + 1) more
+      listed h (record { place = place; nth = nth }) a ++ of_answers place h (nth + 1) more
 
   abbrev pub of_record : ℕ → Body → Outcome → List X
   of_record place (Rejected r) (outcome.Rejected s) = []

@@ -90,8 +90,8 @@ module _ (lot : LotParts) (plan : Plan) (ts : List Transmission) (opening : Ledg
       (at : At) → (s : Spot) → spot_at ts at ≡ Some s → IsBefore first at → IsUpTo at last → StandsBefore r at s
 
   -- the claim as it is shown with the transaction at a place: its source and its end, among what the batch changed
-  abbrev pub told : At → Row → Traced
-  told at r = traced (events_of 1 ts (fold_replies lot plan 1 ts opening)) at r
+  abbrev pub traced_at : At → Row → Traced
+  traced_at at r = traced (events_of 1 ts (fold_replies lot plan 1 ts opening)) at r
 
 -- ---- the claims of an explanation
 

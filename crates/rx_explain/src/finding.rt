@@ -1,7 +1,7 @@
 ghost use Rattle.std.specs.Prelude.{◌≡◌, ◌++◌, ◌≤◌, IfOk, OnOk, length};
 ghost use Rattle.rx_fields.specs.declared.limits.TheConstants.{MOST_DETAILS};
 ghost use Rattle.rx_ledger.specs.Members.{is_same};
-ghost use Rattle.rx_explain.specs.Found.{found_at, found_in, has_number, has_reference, is_wanted};
+ghost use Rattle.rx_explain.specs.Found.{found_at, found_in, has_number, has_reference, is_match};
 ghost use Rattle.rx_explain.specs.Listed.{of_answers, of_record};
 
 use crate::at::At;
@@ -11,7 +11,7 @@ use std::alloc::{AllocError, Global};
 
 /// Which transactions of a batch are asked for.
 #[derive(Clone, Copy)]
-pub enum Wanted {
+pub enum Query {
     /// Those of the record at a place, from 1.
     Place(u64),
     /// The one at this place.
@@ -27,20 +27,20 @@ pub enum Wanted {
 /// Where the transactions stand that are asked for, in order, where these are the replies to the batch.
 pub fn find(
     alloc: Global,
-    wanted: &Wanted,
+    query: &Query,
     transmissions: &[Transmission],
     replies: &[Reply],
 ) -> Result<Vec<At>, Memory>
     requires few { length transmissions.now ≤ MOST_DETAILS }
     requires each { length replies.now ≡ length transmissions.now }
-    ensures { IfOk result (λ found. found.items ≡ found_in wanted.now 1 transmissions.now replies.now) }
+    ensures { IfOk result (λ found. found.items ≡ found_in query.now 1 transmissions.now replies.now) }
 {
     let mut found = Vec::new(alloc);
     for (before, transmission) in transmissions.iter().enumerate() {
         let reply = &replies[before];
         put_record(
             &mut found,
-            wanted,
+            query,
             before as u64 + 1,
             &transmission.body,
             &reply.outcome,
@@ -52,16 +52,16 @@ pub fn find(
 // Those of the record at a place.
 fn put_record(
     found: &mut Vec<At>,
-    wanted: &Wanted,
+    query: &Query,
     place: u64,
     body: &Body,
     outcome: &Outcome,
 ) -> Result<(), AllocError>
-    ensures { OnOk result (found.new.items ≡ found.old.items ++ of_record (found_at wanted.now) place body.now outcome.now) }
+    ensures { OnOk result (found.new.items ≡ found.old.items ++ of_record (found_at query.now) place body.now outcome.now) }
 {
     match (body, outcome) {
         (Body::Heard(heard), Outcome::Heard(answers)) => {
-            put_answers(found, wanted, place, heard, answers.as_slice())
+            put_answers(found, query, place, heard, answers.as_slice())
         }
         _ => Ok(()),
     }
@@ -69,44 +69,44 @@ fn put_record(
 
 fn put_answers(
     found: &mut Vec<At>,
-    wanted: &Wanted,
+    query: &Query,
     place: u64,
     heard: &Heard,
     answers: &[Answer],
 ) -> Result<(), AllocError>
-    ensures { OnOk result (found.new.items ≡ found.old.items ++ of_answers (found_at wanted.now) place heard.now 1 answers.now) }
+    ensures { OnOk result (found.new.items ≡ found.old.items ++ of_answers (found_at query.now) place heard.now 1 answers.now) }
 {
     for (before, answer) in answers.iter().enumerate() {
         let nth = before as u64 + 1;
-        put_answer(found, wanted, At { place, nth }, heard, answer)?;
+        put_answer(found, query, At { place, nth }, heard, answer)?;
     }
     Ok(())
 }
 
 fn put_answer(
     found: &mut Vec<At>,
-    wanted: &Wanted,
+    query: &Query,
     at: At,
     heard: &Heard,
     answer: &Answer,
 ) -> Result<(), AllocError>
-    ensures { OnOk result (found.new.items ≡ found.old.items ++ found_at wanted.now heard.now at answer.now) }
+    ensures { OnOk result (found.new.items ≡ found.old.items ++ found_at query.now heard.now at answer.now) }
 {
-    if is_wanted(wanted, at, heard, answer) {
+    if is_match(query, at, heard, answer) {
         return Ok(found.push(at)?);
     }
     Ok(())
 }
 
-fn is_wanted(wanted: &Wanted, at: At, heard: &Heard, answer: &Answer) -> bool
-    ensures { result ≡ is_wanted wanted.now at heard.now answer.now }
+fn is_match(query: &Query, at: At, heard: &Heard, answer: &Answer) -> bool
+    ensures { result ≡ is_match query.now at heard.now answer.now }
 {
-    match wanted {
-        Wanted::Place(place) => at.place == *place,
-        Wanted::One(one) => at.place == one.place && at.nth == one.nth,
-        Wanted::Number(number) => has_number(*number, answer),
-        Wanted::Reference(reference) => has_reference(*reference, answer),
-        Wanted::ReferenceAt(reference, provider) => {
+    match query {
+        Query::Place(place) => at.place == *place,
+        Query::One(one) => at.place == one.place && at.nth == one.nth,
+        Query::Number(number) => has_number(*number, answer),
+        Query::Reference(reference) => has_reference(*reference, answer),
+        Query::ReferenceAt(reference, provider) => {
             has_reference(*reference, answer) && is_same(&heard.provider, provider)
         }
     }

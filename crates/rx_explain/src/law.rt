@@ -28,7 +28,7 @@ ghost use Rattle.rx_explain.specs.declared.traced.Source.TheVariants as source;
 ghost use Rattle.rx_explain.specs.declared.traced.Traced.{Traced};
 ghost use Rattle.rx_explain.specs.Before.{ledger_before};
 ghost use Rattle.rx_explain.specs.Sources.{IsBefore, IsPaidAt, IsShown, IsTakenBackAt, StandsAfter, StandsBefore, StandsBetween};
-ghost use Rattle.rx_explain.specs.Sources.{StandsUpTo, TakesBack, told};
+ghost use Rattle.rx_explain.specs.Sources.{StandsUpTo, TakesBack, traced_at};
 
 /// The answer that an explanation shows is the one in the batch's replies: the reply to a record is that on the ledger
 /// which the records before it leave, and its answers are each that on the ledger which the transactions before it leave
@@ -52,21 +52,21 @@ pub fn reply_is_shown()
 pub fn sources_are_true()
     ensures paid_by { (lot : LotParts) → (plan : Plan) → (ts : List Transmission) → (opening : Ledger) → (at : At)
         → (s : Spot) → (r : Row) → spot_at ts at ≡ Some s → StandsBefore lot plan ts opening r at s
-        → (paid : At) → (told lot plan ts opening at r).source ≡ source.Record paid
+        → (paid : At) → (traced_at lot plan ts opening at r).source ≡ source.Record paid
         → IsBefore paid at × IsPaidAt lot plan ts opening r paid × StandsBetween lot plan ts opening paid at r }
     ensures opening { (lot : LotParts) → (plan : Plan) → (ts : List Transmission) → (opening : Ledger) → (at : At)
         → (s : Spot) → (r : Row) → spot_at ts at ≡ Some s → StandsBefore lot plan ts opening r at s
-        → (told lot plan ts opening at r).source ≡ source.Opening
+        → (traced_at lot plan ts opening at r).source ≡ source.Opening
         → (row_under opening r.key ≡ Some r) × StandsUpTo lot plan ts opening at r }
     ensures taken_back { (lot : LotParts) → (plan : Plan) → (ts : List Transmission) → (opening : Ledger) → (at : At)
         → (s : Spot) → (r : Row) → spot_at ts at ≡ Some s → StandsBefore lot plan ts opening r at s
         → ¬ TakesBack lot plan ts opening r at s
-        → (back : At) → (told lot plan ts opening at r).taken_back ≡ Some back
+        → (back : At) → (traced_at lot plan ts opening at r).taken_back ≡ Some back
         → IsBefore at back × IsTakenBackAt lot plan ts opening r back × StandsBetween lot plan ts opening at back r }
     ensures still_stands { (lot : LotParts) → (plan : Plan) → (ts : List Transmission) → (opening : Ledger) → (at : At)
         → (s : Spot) → (r : Row) → spot_at ts at ≡ Some s → StandsBefore lot plan ts opening r at s
         → ¬ TakesBack lot plan ts opening r at s
-        → (told lot plan ts opening at r).taken_back ≡ None
+        → (traced_at lot plan ts opening at r).taken_back ≡ None
         → StandsAfter lot plan ts opening at r
         × (row_under (fold_ledger lot plan 1 ts opening) r.key ≡ Some r) }
     ensures taken_back_now { (lot : LotParts) → (plan : Plan) → (ts : List Transmission) → (opening : Ledger) → (at : At)
@@ -76,7 +76,7 @@ pub fn sources_are_true()
     ensures shown { (lot : LotParts) → (plan : Plan) → (ts : List Transmission) → (opening : Ledger) → (at : At)
         → (s : Spot) → (x : Explanation) → (t : Traced) → IsAscending key_cmp row_key opening.rows
         → IsExplained lot plan ts opening at (Some s) (Some x) → IsShown x t
-        → (t ≡ told lot plan ts opening at t.row) × StandsBefore lot plan ts opening t.row at s }
+        → (t ≡ traced_at lot plan ts opening at t.row) × StandsBefore lot plan ts opening t.row at s }
 {}
 
 /// The rows that an explanation lists for an accumulator sum to it: to a family's out of pocket and to its deductible all

@@ -35,7 +35,7 @@ pub use at::{At, place_at};
 pub use events::{Change, Event, Events};
 pub use explanation::Explanation;
 pub use facts::Facts;
-pub use finding::{Wanted, find};
+pub use finding::{Query, find};
 pub use law::{
     others_names_decide_nothing, others_stay_unnamed, reply_is_shown, sources_are_true,
     steps_lead_to_the_answer, sums_are_of_counted_rows,

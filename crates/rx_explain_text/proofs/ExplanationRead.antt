@@ -18,7 +18,7 @@ use Rattle.rx_explain.specs.declared.traced.Source.{Source}
 use Rattle.rx_explain.specs.declared.traced.Source.TheVariants.{Opening, Record, Elsewhere}
 use Rattle.rx_explain.specs.declared.traced.Traced.{Traced}
 use Rattle.rx_explain.specs.declared.workings.Workings.{Workings}
-use Rattle.rx_explain_text.proofs.JsonNames.{case_name, code_name, day_name, field_is, is_field, number_name, wanted_name, words_are}
+use Rattle.rx_explain_text.proofs.JsonNames.{case_name, code_name, day_name, field_is, is_field, number_name, expected_name, words_are}
 use Rattle.rx_explain_text.specs.Claims.{as_decided}
 use Rattle.rx_explain_text.specs.ExplanationData as tree
 use Rattle.rx_explain_text.specs.ExplanationData.{Member, count, day, text}
@@ -29,7 +29,7 @@ use Rattle.rx_explain_text.specs.Json.{place_json, quoted, said_member, text_mem
 use Rattle.rx_explain_text.specs.Reasons.{days_between}
 use Rattle.rx_explain_text.specs.RequestField.{field_bytes, field_number}
 use Rattle.rx_print.specs.Said.{said}
-use Rattle.rx_explain_text.specs.Words.{case_name_of, name_of, wanted_for}
+use Rattle.rx_explain_text.specs.Words.{case_name_of, name_of, expected_of}
 use Rattle.rx_explain_text.specs.declared.compared.Compared.{Compared}
 use Rattle.rx_explain_text.specs.declared.compared.Compared.TheVariants.{Same, Differs, Absent, OtherBatch}
 use Rattle.rx_fields.specs.Calendar.{Civil}
@@ -177,9 +177,9 @@ read_code_is : (d : ℕ) (request : List ℕ) (nth : ℕ) (c : Code)
     → IsText (suc d) (json.code_json request nth c) (tree.read_code request nth c)
 unfolding json.code_json said
 read_code_is d request nth c =
-    code_object d c _ (text (codes "wanted") (wanted_for c) ∷ tree.field_data request nth c (field_number c))
+    code_object d c _ (text (codes "expected") (expected_of c) ∷ tree.field_data request nth c (field_number c))
     (closes_after d _ _ (_ ∷ []) (tree.field_data request nth c (field_number c))
-    (said_is d (codes "wanted") (wanted_for c) refl (wanted_name c))
+    (said_is d (codes "expected") (expected_of c) refl (expected_name c))
     (closes_field (field_number c) (field_is c)))
   where
     closes_field : (o : Option (List ℕ)) → is_field o ≡ true

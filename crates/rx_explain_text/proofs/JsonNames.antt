@@ -5,7 +5,7 @@ use Rattle.std.proofs.Common.{arith, sym}
 use Rattle.std.proofs.lemmas.Bool.{and_from, and_parts}
 use Rattle.std.proofs.lemmas.Bool.Decides.{nat_tests}
 use Rattle.rx_explain_text.specs.RequestField.{field_number}
-use Rattle.rx_explain_text.specs.Words.{case_name_of, name_of, wanted_for}
+use Rattle.rx_explain_text.specs.Words.{case_name_of, name_of, expected_of}
 use Rattle.rx_fields.proofs.DigitLaws.{digits_text-all}
 use Rattle.rx_fields.specs.Calendar.{Civil, date_text}
 use Rattle.rx_fields.specs.Digits.{digits_text}
@@ -82,15 +82,15 @@ abbrev pub is_field : Option (List ℕ) → Bool
 is_field None = true
 is_field (Some field) = is_name field
 
-words_of : (c : Code) → (is_name (name_of c) && (is_name (wanted_for c) && is_field (field_number c))) ≡ true
+words_of : (c : Code) → (is_name (name_of c) && (is_name (expected_of c) && is_field (field_number c))) ≡ true
 words_of code.Bin = refl
 words_of other = refl
 
 pub code_name : (c : Code) → is_name (name_of c) ≡ true
 code_name c = (and_parts _ _ (words_of c)).0
 
-pub wanted_name : (c : Code) → is_name (wanted_for c) ≡ true
-wanted_name c = (and_parts _ _ (and_parts _ _ (words_of c)).1).0
+pub expected_name : (c : Code) → is_name (expected_of c) ≡ true
+expected_name c = (and_parts _ _ (and_parts _ _ (words_of c)).1).0
 
 pub field_is : (c : Code) → is_field (field_number c) ≡ true
 field_is c = (and_parts _ _ (and_parts _ _ (words_of c)).1).1

@@ -13,7 +13,7 @@ use Rattle.rx_explain.specs.declared.traced.Traced.{Traced}
 use Rattle.rx_explain.specs.declared.workings.Workings.{Workings}
 use Rattle.rx_explain_text.specs.Answered.{answered_line}
 use Rattle.rx_explain_text.specs.Codes.{code_lines}
-use Rattle.rx_explain_text.specs.Figures.{accumulator_lines, figure_lines, if_paid, paid_lines, paid_of}
+use Rattle.rx_explain_text.specs.Figures.{figure_lines, if_paid, paid_lines, paid_of}
 use Rattle.rx_explain_text.specs.Json.{answer_json, case_json, figures_json, header_json, passed_json, payable_json, refused_json}
 use Rattle.rx_explain_text.specs.Json.{explanation_object, soon_json, standing_json}
 use Rattle.rx_explain_text.specs.Reasons.{bill_reason, coverage_text, earlier_text, elsewhere_fill, fill_by, other_text, product_text}

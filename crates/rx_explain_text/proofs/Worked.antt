@@ -5,7 +5,7 @@ use Rattle.rx_fields.specs.Calendar.{date_text}
 use Rattle.rx_fields.specs.Digits.{digits_text}
 use Rattle.rx_fields.specs.Numbered.{Span}
 use Rattle.rx_explain.specs.declared.at.At.{At}
-use Rattle.rx_explain.specs.declared.finding.Wanted.TheVariants as wanted
+use Rattle.rx_explain.specs.declared.finding.Query.TheVariants as query
 use Rattle.rx_explain_text.specs.Absent.{absent_line, near_text, pharmacy_text, places_left, prescription_text, record_text}
 use Rattle.rx_explain_text.specs.Absent.{records_text, transaction_text}
 use Rattle.rx_explain_text.specs.Claims.{at_text}
@@ -55,7 +55,7 @@ three-items : between_commas decimal (1 ∷ 2 ∷ 3 ∷ []) ≡ codes "1,2,3"
 unfolding digits said
 three-items = refl
 
-no-record : absent_line (wanted.Place 22) 21 [] ≡ codes "rxbatch: no record 22; the batch has records 1 to 21\n"
+no-record : absent_line (query.Place 22) 21 [] ≡ codes "rxbatch: no record 22; the batch has records 1 to 21\n"
 unfolding digits absent_line record_text records_text said
 no-record = refl
 
@@ -65,12 +65,12 @@ first-of-five = record { place = 5; nth = 1 }
 abbrev second-of-five : At
 second-of-five = record { place = 5; nth = 2 }
 
-no-transaction : absent_line (wanted.One (record { place = 5; nth = 4 })) 21 (first-of-five ∷ second-of-five ∷ [])
+no-transaction : absent_line (query.One (record { place = 5; nth = 4 })) 21 (first-of-five ∷ second-of-five ∷ [])
     ≡ codes "rxbatch: no transaction 5.4; that record has 5.1, 5.2\n"
 unfolding digits absent_line transaction_text near_text places_left at_text said
 no-transaction = refl
 
-at-another-pharmacy : absent_line (wanted.ReferenceAt 455102 (codes "90")) 21 (first-of-five ∷ [])
+at-another-pharmacy : absent_line (query.ReferenceAt 455102 (codes "90")) 21 (first-of-five ∷ [])
     ≡ codes "rxbatch: no rx 455102 at 90; that prescription is in records 5.1\n"
 unfolding digits absent_line pharmacy_text prescription_text near_text places_left at_text said
 at-another-pharmacy = refl

@@ -3,8 +3,8 @@ use Rattle.std.specs.Prelude.{ℕ, ◌-◌, ◌==◌, if◌then◌else◌, List,
 use Rattle.std.specs.Fmt.{decimal}
 use Rattle.std.specs.List.{flat_map}
 use Rattle.rx_explain.specs.declared.at.At.{At}
-use Rattle.rx_explain.specs.declared.finding.Wanted.{Wanted}
-use Rattle.rx_explain.specs.declared.finding.Wanted.TheVariants as wanted
+use Rattle.rx_explain.specs.declared.finding.Query.{Query}
+use Rattle.rx_explain.specs.declared.finding.Query.TheVariants as query
 use Rattle.rx_explain_text.specs.Answered.{numbered_text}
 use Rattle.rx_explain_text.specs.Claims.{at_text}
 use Rattle.rx_explain_text.specs.Codes.{shown}
@@ -26,12 +26,12 @@ prescription_text reference = say "no rx " ++ decimal reference
 unfoldable pub pharmacy_text : ℕ → List ℕ → List ℕ
 pharmacy_text reference provider = prescription_text reference ++ (say " at " ++ shown provider)
 
-abbrev pub named_text : Wanted → List ℕ
-named_text (wanted.Place place) = record_text place
-named_text (wanted.One at) = transaction_text at
-named_text (wanted.Number number) = numbered_text (codes "no answer with number ") number
-named_text (wanted.Reference reference) = prescription_text reference
-named_text (wanted.ReferenceAt reference provider) = pharmacy_text reference provider
+abbrev pub named_text : Query → List ℕ
+named_text (query.Place place) = record_text place
+named_text (query.One at) = transaction_text at
+named_text (query.Number number) = numbered_text (codes "no answer with number ") number
+named_text (query.Reference reference) = prescription_text reference
+named_text (query.ReferenceAt reference provider) = pharmacy_text reference provider
 
 -- ---- what the batch has
 
@@ -46,26 +46,26 @@ after_comma at = say ", " ++ at_text at
 unfoldable pub places_left : ℕ → List ℕ
 places_left more = if more == 0 then [] else say " and " ++ (decimal more ++ say " more")
 
-abbrev pub near_words : Wanted → List ℕ
-near_words (wanted.One at) = codes "; that record has "
+abbrev pub near_words : Query → List ℕ
+near_words (query.One at) = codes "; that record has "
 near_words other = codes "; that prescription is in records "
 
 -- the first places of those near, and how many more there are
-unfoldable pub near_text : Wanted → At → List At → List ℕ
+unfoldable pub near_text : Query → At → List At → List ℕ
 near_text w first others =
     said (near_words w) ++ (at_text first ++ (flat_map after_comma (take MOST_OTHERS others)
     ++ places_left (length others - MOST_OTHERS)))
 
-abbrev pub has_text : Wanted → ℕ → List At → List ℕ
+abbrev pub has_text : Query → ℕ → List At → List ℕ
 has_text w records [] = records_text records
 has_text w records (first ∷ others) = near_text w first others
 
 -- ---- the line
 
 -- the transactions of the record, or of the prescription at any pharmacy, are near
-unfoldable pub absent_line : Wanted → ℕ → List At → List ℕ
+unfoldable pub absent_line : Query → ℕ → List At → List ℕ
 absent_line w records near = say "rxbatch: " ++ (named_text w ++ (has_text w records near ++ say "\n"))
 
 -- where what was asked for is no transaction of the pharmacy, which may see only its own
-unfoldable pub absent_for : Wanted → List ℕ → List ℕ
+unfoldable pub absent_for : Query → List ℕ → List ℕ
 absent_for w provider = say "rxbatch: " ++ (named_text w ++ (say " of pharmacy " ++ (shown provider ++ say "\n")))

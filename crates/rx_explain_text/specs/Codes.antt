@@ -6,7 +6,7 @@ use Rattle.rx_print.specs.Escape.{escaped}
 use Rattle.rx_print.specs.declared.style.Style.TheVariants.{Terminal}
 use Rattle.rx_explain_text.specs.RequestField.{field_bytes, field_number}
 use Rattle.rx_explain_text.specs.Said.{said, say}
-use Rattle.rx_explain_text.specs.Words.{name_of, wanted_for}
+use Rattle.rx_explain_text.specs.Words.{name_of, expected_of}
 use Rattle.rx_fields.specs.Codes.{code_text}
 use Rattle.rx_fields.specs.declared.code.Code.{Code}
 use Rattle.rx_fields.specs.declared.code.Code.TheVariants as code
@@ -37,14 +37,14 @@ own_text d other = []
 unfoldable pub named_code : Code → List ℕ
 named_code c = code_text c ++ (say " " ++ said (name_of c))
 
-unfoldable pub wanted_text : Door → Code → List ℕ
-wanted_text d c = say ", expected is " ++ (said (wanted_for c) ++ (own_text d c ++ say "\n"))
+unfoldable pub expected_text : Door → Code → List ℕ
+expected_text d c = say ", expected is " ++ (said (expected_of c) ++ (own_text d c ++ say "\n"))
 
 -- the code, the field of the nth group that it speaks of, that field's bytes, and what is expected
 unfoldable pub code_line : Door → List ℕ → ℕ → Code → List ℕ
 code_line d request nth c =
     say "  " ++ (named_code c ++ (say ": " ++ (said (unwrap_or (field_number c) (codes "the text"))
-    ++ (bytes_text (field_bytes request nth c) ++ wanted_text d c))))
+    ++ (bytes_text (field_bytes request nth c) ++ expected_text d c))))
 
 abbrev pub code_lines : Door → List ℕ → ℕ → List Code → List ℕ
 code_lines d request nth cs = flat_map (code_line d request nth) cs

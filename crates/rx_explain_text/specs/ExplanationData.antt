@@ -20,7 +20,7 @@ use Rattle.rx_explain_text.specs.Claims.{as_decided}
 use Rattle.rx_explain_text.specs.Figures.{paid_of}
 use Rattle.rx_explain_text.specs.Reasons.{days_between}
 use Rattle.rx_explain_text.specs.RequestField.{field_bytes, field_number}
-use Rattle.rx_explain_text.specs.Words.{case_name_of, name_of, wanted_for}
+use Rattle.rx_explain_text.specs.Words.{case_name_of, name_of, expected_of}
 use Rattle.rx_explain_text.specs.declared.compared.Compared.{Compared}
 use Rattle.rx_explain_text.specs.declared.compared.Compared.TheVariants.{Same, Differs, Absent, OtherBatch}
 use Rattle.rx_fields.specs.Calendar.{Civil}
@@ -97,7 +97,7 @@ field_data request nth c (Some field) = text (codes "field") field ∷ bytes_dat
 
 abbrev pub read_code : List ℕ → ℕ → Code → Value
 read_code request nth c =
-    object (named_code c ++ text (codes "wanted") (wanted_for c) ∷ field_data request nth c (field_number c))
+    object (named_code c ++ text (codes "expected") (expected_of c) ∷ field_data request nth c (field_number c))
 
 abbrev pub codes_data : List ℕ → ℕ → List Code → Member
 codes_data request nth cs = (codes "codes", array (map (read_code request nth) cs))

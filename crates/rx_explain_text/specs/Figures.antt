@@ -199,8 +199,8 @@ paid_of t w = None
 
 -- what is said of a claim that is paid; nothing of another
 abbrev pub if_paid : (BillParts → Workings → List ℕ) → Option (BillParts × Workings) → List ℕ
-if_paid told None = []
-if_paid told (Some p) = told p.0 p.1
+if_paid text None = []
+if_paid text (Some p) = text p.0 p.1
 
 abbrev pub figure_lines : Listing → Option (List ℕ) → Transaction → Figures → Explanation → List ℕ
 figure_lines listing tier t figures e = if_paid (paid_lines listing tier figures e) (paid_of t e.workings)

@@ -29,7 +29,7 @@ use Rattle.rx_explain_text.specs.Figures.{if_paid, paid_of}
 use Rattle.rx_explain_text.specs.Reasons.{days_between}
 use Rattle.rx_explain_text.specs.RequestField.{field_bytes, field_number}
 use Rattle.rx_explain_text.specs.Said.{said, say}
-use Rattle.rx_explain_text.specs.Words.{case_name_of, name_of, wanted_for}
+use Rattle.rx_explain_text.specs.Words.{case_name_of, name_of, expected_of}
 use Rattle.rx_explain_text.specs.declared.compared.Compared.{Compared}
 use Rattle.rx_explain_text.specs.declared.compared.Compared.TheVariants.{Same, Differs, Absent, OtherBatch}
 use Rattle.rx_fields.specs.Calendar.{Civil}
@@ -127,7 +127,7 @@ field_json request nth c (Some field) = spoken_field field request nth c
 
 unfoldable pub code_json : List ℕ → ℕ → Code → List ℕ
 code_json request nth c =
-    front_json c ++ (said_member (codes "wanted") (wanted_for c) ++ (field_json request nth c (field_number c) ++ say "}"))
+    front_json c ++ (said_member (codes "expected") (expected_of c) ++ (field_json request nth c (field_number c) ++ say "}"))
 
 unfoldable pub codes_json : List ℕ → ℕ → List Code → List ℕ
 codes_json request nth cs = list_member (codes "codes") (code_json request nth) cs

@@ -5,7 +5,7 @@ ghost use Rattle.rx_explain_text.specs.Absent.{absent_for, pharmacy_text, prescr
 ghost use Rattle.rx_print.specs.Page.{Writes};
 
 use crate::header::{put_at, put_numbered};
-use rx_explain::{At, Wanted};
+use rx_explain::{At, Query};
 use rx_fields::{Memory, Provider, Reference};
 use rx_print::{Page, Style};
 use std::alloc::Global;
@@ -19,32 +19,28 @@ pub(crate) const MOST_OTHERS: usize = 19;
 #[tactic(auto, using(std::proofs::Common::append_assoc), unfolding(crate::specs::Absent::absent_line))]
 pub fn absent_text(
     alloc: Global,
-    wanted: &Wanted,
+    query: &Query,
     records: usize,
     near: &[At],
 ) -> Result<Vec<u8>, Memory>
-    ensures { IfOk result (λ text. text.items ≡ absent_line wanted.now records near.now) }
+    ensures { IfOk result (λ text. text.items ≡ absent_line query.now records near.now) }
 {
     let mut page = Page::new(alloc);
     page.say("rxbatch: ");
-    put_named(&mut page, wanted);
-    put_has(&mut page, wanted, records, near);
+    put_named(&mut page, query);
+    put_has(&mut page, query, records, near);
     page.say("\n");
     page.into_bytes()
 }
 
 /// The line where no transaction of a pharmacy, which may see only its own, is what was asked for.
 #[tactic(auto, using(std::proofs::Common::append_assoc), unfolding(crate::specs::Absent::absent_for))]
-pub fn absent_for_text(
-    alloc: Global,
-    wanted: &Wanted,
-    provider: &Provider,
-) -> Result<Vec<u8>, Memory>
-    ensures { IfOk result (λ text. text.items ≡ absent_for wanted.now provider.now) }
+pub fn absent_for_text(alloc: Global, query: &Query, provider: &Provider) -> Result<Vec<u8>, Memory>
+    ensures { IfOk result (λ text. text.items ≡ absent_for query.now provider.now) }
 {
     let mut page = Page::new(alloc);
     page.say("rxbatch: ");
-    put_named(&mut page, wanted);
+    put_named(&mut page, query);
     page.say(" of pharmacy ");
     page.escaped(Style::Terminal, provider.bytes());
     page.say("\n");
@@ -52,15 +48,15 @@ pub fn absent_for_text(
 }
 
 // What was asked for.
-fn put_named(page: &mut Page, wanted: &Wanted)
-    ensures { Writes page.old page.new (named_text wanted.now) }
+fn put_named(page: &mut Page, query: &Query)
+    ensures { Writes page.old page.new (named_text query.now) }
 {
-    match wanted {
-        Wanted::Place(place) => put_record(page, *place),
-        Wanted::One(at) => put_transaction(page, *at),
-        Wanted::Number(number) => put_numbered(page, "no answer with number ", *number),
-        Wanted::Reference(reference) => put_prescription(page, *reference),
-        Wanted::ReferenceAt(reference, provider) => put_pharmacy(page, *reference, provider),
+    match query {
+        Query::Place(place) => put_record(page, *place),
+        Query::One(at) => put_transaction(page, *at),
+        Query::Number(number) => put_numbered(page, "no answer with number ", *number),
+        Query::Reference(reference) => put_prescription(page, *reference),
+        Query::ReferenceAt(reference, provider) => put_pharmacy(page, *reference, provider),
     }
 }
 
@@ -102,12 +98,12 @@ fn put_pharmacy(page: &mut Page, reference: Reference, provider: &Provider)
 }
 
 // What the batch has.
-fn put_has(page: &mut Page, wanted: &Wanted, records: usize, near: &[At])
-    ensures { Writes page.old page.new (has_text wanted.now records near.now) }
+fn put_has(page: &mut Page, query: &Query, records: usize, near: &[At])
+    ensures { Writes page.old page.new (has_text query.now records near.now) }
 {
     match near {
         [] => put_records(page, records),
-        [first, others @ ..] => put_near(page, wanted, *first, others),
+        [first, others @ ..] => put_near(page, query, *first, others),
     }
 }
 
@@ -125,20 +121,20 @@ fn put_records(page: &mut Page, records: usize)
 
 // The first places of those near, and how many more there are.
 #[tactic(auto, using(std::proofs::Common::append_assoc), unfolding(crate::specs::Absent::near_text))]
-fn put_near(page: &mut Page, wanted: &Wanted, first: At, others: &[At])
-    ensures { Writes page.old page.new (near_text wanted.now first others.now) }
+fn put_near(page: &mut Page, query: &Query, first: At, others: &[At])
+    ensures { Writes page.old page.new (near_text query.now first others.now) }
 {
-    page.say(near_words(wanted));
+    page.say(near_words(query));
     put_at(page, first);
     put_others(page, &others[..others.len().min(MOST_OTHERS)]);
     put_more(page, others.len().saturating_sub(MOST_OTHERS));
 }
 
-fn near_words(wanted: &Wanted) -> &'static str
-    ensures { result.now ≡ near_words wanted.now }
+fn near_words(query: &Query) -> &'static str
+    ensures { result.now ≡ near_words query.now }
 {
-    match wanted {
-        Wanted::One(_) => "; that record has ",
+    match query {
+        Query::One(_) => "; that record has ",
         _ => "; that prescription is in records ",
     }
 }

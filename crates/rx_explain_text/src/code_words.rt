@@ -1,6 +1,6 @@
 ghost use Rattle.std.specs.Prelude.{◌≡◌};
 ghost use Rattle.rx_fields.specs.Codes.{all_codes};
-ghost use Rattle.rx_explain_text.specs.Words.{case_name_of, name_of, wanted_for};
+ghost use Rattle.rx_explain_text.specs.Words.{case_name_of, name_of, expected_of};
 
 use rx_fields::Code;
 use rx_ledger::Decision;
@@ -85,8 +85,8 @@ pub fn name(code: Code) -> &'static str
 
 /// What the tables of header codes and group codes expect in place of what a request has (docs/FORMATS.md, "Request
 /// transmission"); of a code of adjudication what the rules expect (docs/RULES.md, "Billing").
-pub fn wanted(code: Code) -> &'static str
-    ensures { result.now ≡ wanted_for code }
+pub fn expected(code: Code) -> &'static str
+    ensures { result.now ≡ expected_of code }
 {
     match code {
         Code::Bin => "the plan's BIN",

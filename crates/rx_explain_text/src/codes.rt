@@ -1,11 +1,11 @@
 ghost use Rattle.std.specs.Prelude.{◌≡◌, ◌++◌, OnOk, codes, option_map};
 ghost use Rattle.std.specs.Option.{unwrap_or};
 ghost use Rattle.rx_explain_text.specs.Codes.{bytes_text, code_line, code_lines, in_quotes, named_code, own_text, value_text};
-ghost use Rattle.rx_explain_text.specs.Codes.{wanted_text};
+ghost use Rattle.rx_explain_text.specs.Codes.{expected_text};
 ghost use Rattle.rx_explain_text.specs.RequestField.{field_number};
 ghost use Rattle.rx_print.specs.Page.{Writes};
 
-use crate::code_words::{name, wanted};
+use crate::code_words::{expected, name};
 use crate::request_field::{field_bytes, field_name};
 use rx_d0_values::Codes;
 use rx_fields::{Code, Door};
@@ -30,7 +30,7 @@ fn put_code(page: &mut Page, door: &Door, code: Code, request: &[u8], nth: u64)
     page.say(": ");
     page.say(field_or_text(code));
     put_bytes(page, field_bytes(request, nth, code));
-    put_wanted(page, door, code);
+    put_expected(page, door, code);
 }
 
 // The field that a code speaks of, or the text as a whole.
@@ -43,12 +43,12 @@ fn field_or_text(code: Code) -> &'static str
     }
 }
 
-#[tactic(auto, using(std::proofs::Common::append_assoc), unfolding(crate::specs::Codes::wanted_text))]
-fn put_wanted(page: &mut Page, door: &Door, code: Code)
-    ensures { Writes page.old page.new (wanted_text door.now code) }
+#[tactic(auto, using(std::proofs::Common::append_assoc), unfolding(crate::specs::Codes::expected_text))]
+fn put_expected(page: &mut Page, door: &Door, code: Code)
+    ensures { Writes page.old page.new (expected_text door.now code) }
 {
     page.say(", expected is ");
-    page.say(wanted(code));
+    page.say(expected(code));
     put_own(page, door, code);
     page.say("\n");
 }

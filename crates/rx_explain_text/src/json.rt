@@ -15,7 +15,7 @@ ghost use Rattle.rx_explain_text.specs.RequestField.{field_number};
 ghost use Rattle.rx_print.specs.Page.{Writes};
 
 use crate::cited::Cited;
-use crate::code_words::{case_name, name, wanted};
+use crate::code_words::{case_name, expected, name};
 use crate::compared::Compared;
 use crate::figures::paid;
 use crate::json_list::{Decided, Spoken, Standing, put_list};
@@ -268,7 +268,7 @@ pub(crate) fn put_code(page: &mut Page, code: Code, request: &[u8], nth: u64)
     ensures { Writes page.old page.new (code_json request.now nth code) }
 {
     put_front(page, code);
-    put_said(page, "wanted", wanted(code));
+    put_said(page, "expected", expected(code));
     put_field(page, code, request, nth);
     page.say("}");
 }

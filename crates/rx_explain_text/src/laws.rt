@@ -24,7 +24,7 @@ pub fn explanations_read_as_json()
 /// The text that a pharmacy gets of its transaction, in words or as JSON, has of other pharmacies' claims nothing but dates and
 /// amounts: of two explanations that differ only in names, products, prescriptions and pharmacies of other pharmacies' claims,
 /// and in the order that hangs on these, it has one text.
-pub fn others_stay_untold()
+pub fn others_stay_hidden()
     ensures words { (x y u v : Explanation) → IsAlike x y → IsSeen x u → IsSeen y v → (listing : Listing) → (lot : LotParts)
         → (figures : Figures) → (request : List ℕ) → (tier : Option (List ℕ)) → (c : Option Compared)
         → explanation_words listing lot figures u request tier c ≡ explanation_words listing lot figures v request tier c }

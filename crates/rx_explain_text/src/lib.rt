@@ -24,10 +24,10 @@ mod request_field;
 
 pub use absent::{absent_for_text, absent_text};
 pub use cited::Cited;
-pub use code_words::{all_codes, name, wanted};
+pub use code_words::{all_codes, expected, name};
 pub use compared::Compared;
 pub use counted::Listing;
 pub use header::{explanation_text, rejection_text};
 pub use json::{explanation_json, rejection_json};
-pub use laws::{explanations_read_as_json, others_stay_untold};
+pub use laws::{explanations_read_as_json, others_stay_hidden};
 pub use request_field::{field_bytes, field_name};

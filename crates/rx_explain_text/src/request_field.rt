@@ -95,7 +95,7 @@ fn bytes_at(request: &[u8], nth: u64, stand: Stand) -> Option<&[u8]>
 {
     match stand {
         Stand::Header(from, count) => Some(first(
-            behind(first(request, HEADER_LENGTH), from),
+            after_front(first(request, HEADER_LENGTH), from),
             count,
         )),
         Stand::Common(name, id) => value_in(part_of(request, 0)?, name, id),
@@ -113,7 +113,7 @@ fn first(bytes: &[u8], count: usize) -> &[u8]
 }
 
 // The bytes after these.
-fn behind(bytes: &[u8], count: usize) -> &[u8]
+fn after_front(bytes: &[u8], count: usize) -> &[u8]
     ensures { result.now ≡ drop count bytes.now }
 {
     &bytes[bytes.len().min(count)..]
@@ -133,7 +133,7 @@ fn front_of(request: &[u8]) -> &[u8]
 fn part_of(request: &[u8], nth: u64) -> Option<&[u8]>
     ensures { option_copied result ≡ part_of request.now nth }
 {
-    behind(request, HEADER_LENGTH)
+    after_front(request, HEADER_LENGTH)
         .split(|byte| *byte == GROUP)
         .nth(nth as usize)
 }
@@ -188,5 +188,5 @@ fn is_under(piece: &[u8], id: [u8; 2]) -> bool
 fn value_of(piece: &[u8]) -> &[u8]
     ensures { result.now ≡ value_of piece.now }
 {
-    trimmed(behind(piece, 2))
+    trimmed(after_front(piece, 2))
 }

@@ -13,15 +13,15 @@ use Rattle.rx_settle.specs.Providers.{is_same}
 
 module _ {X Z : Type 0} (p : List ℕ) (x : X) where
   -- an item more of a provider that the map has
-  behind : (v w : Vec X Z) (es : List (List ℕ × Vec X Z)) → lookup (is_same p) es ≡ Some v → vec_items w ≡ vec_items v ++ x ∷ []
+  put_among : (v w : Vec X Z) (es : List (List ℕ × Vec X Z)) → lookup (is_same p) es ≡ Some v → vec_items w ≡ vec_items v ++ x ∷ []
       → groups_in (insert_entry (pointwise nat_eq) es p w) ≡ added p x (groups_in es)
-  behind v w [] found is = absurd cc
-  behind v w (e ∷ es) found is = elim (cases_Bool (is_same p e.0)) [
+  put_among v w [] found is = absurd cc
+  put_among v w (e ∷ es) found is = elim (cases_Bool (is_same p e.0)) [
     | inl here ↦
         let there : Some e.1 ≡ Some v = rw here at found in
         let same : e.1 ≡ v = cc in
         rw here (ap (λ xs. (e.0, xs) ∷ groups_in es) (is ∙ ap (λ u. vec_items u ++ x ∷ []) (sym same)))
-    | inr other ↦ rw other (ap (λ rest. group_in e ∷ rest) (behind v w es (rw other at found) is))
+    | inr other ↦ rw other (ap (λ rest. group_in e ∷ rest) (put_among v w es (rw other at found) is))
   ]
 
   -- the first item of a provider
@@ -40,4 +40,4 @@ module _ {X Z : Type 0} (p : List ℕ) (x : X) where
   put_back v w es at place value is =
       let found = Found-position (is_same p) es at place in
       ap groups_in (sym (insert_entry-first (pointwise nat_eq) p w es at found.first))
-      ∙ behind v w es (found.value ∙ value) is
+      ∙ put_among v w es (found.value ∙ value) is

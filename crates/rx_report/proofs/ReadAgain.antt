@@ -214,9 +214,9 @@ dashed_plain : (day : Civil) → IsPlain (dashed day)
 dashed_plain day =
     let date = date_text day in
     let rest : IsPlain (drop 4 date) = plain_drop 4 date (date_plain day) in
-    let behind : IsPlain (45 ∷ drop 2 (drop 4 date)) = plain_drop 2 (drop 4 date) rest in
+    let after_year : IsPlain (45 ∷ drop 2 (drop 4 date)) = plain_drop 2 (drop 4 date) rest in
     plain_append (take 4 date) (45 ∷ (take 2 (drop 4 date) ++ (45 ∷ drop 2 (drop 4 date)))) (plain_take 4 date (date_plain day))
-    (plain_append (take 2 (drop 4 date)) (45 ∷ drop 2 (drop 4 date)) (plain_take 2 (drop 4 date) rest) behind)
+    (plain_append (take 2 (drop 4 date)) (45 ∷ drop 2 (drop 4 date)) (plain_take 2 (drop 4 date) rest) after_year)
 
 time_plain : (t : Clock) → IsPlain (time_text t)
 unfolding time_text

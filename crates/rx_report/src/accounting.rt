@@ -34,7 +34,7 @@ pub fn account_of<'a>(
             Ok(Account { sections, total })
         }
         Portion::Family(_) => Ok(Account {
-            sections: each_told(alloc, groups)?,
+            sections: sections_of(alloc, groups)?,
             total: tally_lines(kept),
         }),
     }
@@ -92,7 +92,7 @@ fn first_tally(sections: &[Section<'_>]) -> Tally
 }
 
 // A section for each provider of some lines, with what those come to.
-fn each_told<'a>(alloc: Global, groups: &'a Groups) -> Result<Vec<Section<'a>>, Memory>
+fn sections_of<'a>(alloc: Global, groups: &'a Groups) -> Result<Vec<Section<'a>>, Memory>
     ensures { IfOk result (λ sections. map parts_of sections.items ≡ map with_tally groups.now) }
 {
     let mut sections = Vec::new(alloc);

@@ -36,7 +36,7 @@ impl Groups {
         let mut by_provider = IndexMap::new(alloc);
         for line in lines {
             let provider = known_or_blank(line.provider);
-            put_behind(alloc, &mut by_provider, provider, *line)?;
+            put_after(alloc, &mut by_provider, provider, *line)?;
         }
         Ok(Groups { by_provider })
     }
@@ -60,7 +60,7 @@ impl Groups {
 }
 
 // Puts an item after those of its provider.
-fn put_behind<T: Copy + Drop>(
+fn put_after<T: Copy + Drop>(
     alloc: Global,
     groups: &mut IndexMap<Field, Vec<T>>,
     provider: Field,

@@ -20,7 +20,7 @@ use Rattle.rx_settle.specs.Answers.{answers_of, tally, weight}
 use Rattle.rx_settle.specs.Providers.{providers, replies_to}
 use Rattle.rx_settle.specs.Settlement.{counts_text, head_line, line_end, net, provider_line, settlement_text, total_line}
 use Rattle.rx_settle.specs.declared.tally.Tally.{Tally}
-use Rattle.rx_run_log.specs.Settlement.{behind_lines, count_of, fields_of, first_count, is_in_field, is_in_line, last_line}
+use Rattle.rx_run_log.specs.Settlement.{after_lines, count_of, fields_of, first_count, is_in_field, is_in_line, last_line}
 use Rattle.rx_run_log.specs.Settlement.{net_of, totals_in, totals_of, totals_told}
 use Rattle.rx_run_log.specs.Traffic.{last_of}
 use Rattle.rx_run_log.specs.declared.traffic.TheConstants.{KEPT}
@@ -37,11 +37,11 @@ drop_front : (xs ys : List ℕ) → drop (length xs) (xs ++ ys) ≡ ys
 drop_front [] ys = refl
 drop_front (x ∷ xs) ys = drop_front xs ys
 
-drop_behind : (xs : List ℕ) (b : ℕ) (ys : List ℕ) → drop (length xs + 1) (xs ++ b ∷ ys) ≡ ys
-drop_behind [] b ys = refl
-drop_behind (x ∷ xs) b ys =
+drop_after : (xs : List ℕ) (b : ℕ) (ys : List ℕ) → drop (length xs + 1) (xs ++ b ∷ ys) ≡ ys
+drop_after [] b ys = refl
+drop_after (x ∷ xs) b ys =
     let one : suc (length xs) + 1 ≡ suc (length xs + 1) = omega arith in
-    rw one (drop_behind xs b ys)
+    rw one (drop_after xs b ys)
 
 digits_in_field : (ds : List ℕ) → list_all is_digit ds ≡ true → list_all is_in_field ds ≡ true
 digits_in_field [] all = refl
@@ -62,7 +62,7 @@ first_of : (ds rest : List ℕ) (n : ℕ) → list_all is_in_field ds ≡ true �
 first_of ds rest n all count =
     let len = length-append ds (124 ∷ rest) in
     let more : nat_lt (length ds) (length (ds ++ 124 ∷ rest)) ≡ true = grind (arith, nat_tests) in
-    rw (field_len ds rest all, more, take_front ds (124 ∷ rest), drop_behind ds 124 rest, count) refl
+    rw (field_len ds rest all, more, take_front ds (124 ∷ rest), drop_after ds 124 rest, count) refl
 
 first_is : (n : ℕ) (rest : List ℕ) → n < 2 ^ 64 → first_count (decimal n ++ 124 ∷ rest) ≡ Some (n, rest)
 first_is n rest small = first_of (decimal n) rest n (digits_in_field (decimal n) (decimal_digits n small)) (count_back n small)
@@ -248,15 +248,15 @@ outside : (front line : List ℕ) → IsEnd front → 0 < length front
 outside front line ends some =
     ap is_in_line (get_or_append_left front line 0 (length front - 1) (omega arith) ∙ last_byte front ends some)
 
-behind : (front line : List ℕ) → list_all is_in_line line ≡ true → IsEnd front → behind_lines (front ++ line) ≡ line
-behind front line all ends =
+after_end : (front line : List ℕ) → list_all is_in_line line ≡ true → IsEnd front → after_lines (front ++ line) ≡ line
+after_end front line all ends =
     let whole = length-append front line in
     let run = suffix_len_is is_in_line (front ++ line) (length front) 0 (omega (arith, whole))
     (λ k from to. inside front line k all from (omega (arith, whole))) (λ some. outside front line ends some) in
     let at : length (front ++ line) - suffix_len is_in_line (front ++ line) ≡ length front = omega (arith, run, whole) in
     ap (λ k. drop k (front ++ line)) at ∙ drop_front front line
 
-one_line : (xs : List ℕ) → last_line (xs ++ 10 ∷ []) ≡ Some (behind_lines xs)
+one_line : (xs : List ℕ) → last_line (xs ++ 10 ∷ []) ≡ Some (after_lines xs)
 one_line xs =
     let len = length-append xs (10 ∷ []) in
     let at : length (xs ++ 10 ∷ []) - 1 ≡ length xs = omega (arith, len) in
@@ -268,7 +268,7 @@ one_line xs =
 
 last_is : (front line : List ℕ) → list_all is_in_line line ≡ true → IsEnd front → last_line (front ++ (line ++ 10 ∷ [])) ≡ Some line
 last_is front line all ends =
-    ap last_line (sym (append_assoc front line (10 ∷ []))) ∙ one_line (front ++ line) ∙ ap (λ l. Some l) (behind front line all ends)
+    ap last_line (sym (append_assoc front line (10 ∷ []))) ∙ one_line (front ++ line) ∙ ap (λ l. Some l) (after_end front line all ends)
 
 -- ---- a settlement
 

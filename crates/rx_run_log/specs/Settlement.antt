@@ -16,14 +16,14 @@ abbrev pub is_in_field : ℕ → Bool
 is_in_field b = not (b == 124)
 
 -- the bytes after the last line feed, or all if there is none
-abbrev pub behind_lines : List ℕ → List ℕ
-behind_lines text = drop (length text - suffix_len is_in_line text) text
+abbrev pub after_lines : List ℕ → List ℕ
+after_lines text = drop (length text - suffix_len is_in_line text) text
 
 -- the last line, without the line feed that ends it; none where the text ends with none
 abbrev pub last_line : List ℕ → Option (List ℕ)
 last_line text =
     if nat_lt 0 (length text) && (slice_index text (length text - 1) == 10)
-    then Some (behind_lines (take (length text - 1) text)) else None
+    then Some (after_lines (take (length text - 1) text)) else None
 
 -- the number that decimal digits write
 abbrev pub number_after : ℕ → List ℕ → ℕ

@@ -1,6 +1,6 @@
 ghost use Rattle.std.specs.Prelude.{◌≡◌, ◌-◌, ◌≤◌, drop, length, None, Some, MatchOption};
 ghost use Rattle.std.specs.List.{prefix_len, suffix_len};
-ghost use Rattle.rx_run_log.specs.Settlement.{behind_lines, count_of, fields_of, first_count, is_in_field, is_in_line, last_line, net_of};
+ghost use Rattle.rx_run_log.specs.Settlement.{after_lines, count_of, fields_of, first_count, is_in_field, is_in_line, last_line, net_of};
 ghost use Rattle.rx_run_log.specs.Settlement.{totals_in, totals_of};
 
 use crate::digit_text::text_of;

@@ -4,7 +4,6 @@ use Rattle.std.proofs.Common.{arith}
 use Rattle.std.proofs.lemmas.Bool.{cases_Bool}
 use Rattle.std.proofs.lemmas.List.{map-append}
 use Rattle.rx_fields.specs.Numbered.{LotParts}
-use Rattle.rx_d0_values.specs.declared.reply.Reply.{Reply}
 use Rattle.rx_d0_values.specs.declared.transmission.Transmission.{Transmission}
 use Rattle.rx_ledger.specs.Fold.{fold_ledger, ledger_after, reply_to}
 use Rattle.rx_ledger.specs.Ledger.{Ledger}

@@ -1,5 +1,5 @@
 -- What each plan makes of the records that are dealt out to it is what the switch gives.
-use Rattle.std.proofs.Common.{◌≡◌, ℕ, suc, ◌+◌, ◌-◌, ◌<◌, ◌≤◌, true, List, [], ◌∷◌, ◌++◌, get_or, length, map, refl, ap, sym, subst, ◌∙◌}
+use Rattle.std.proofs.Common.{◌≡◌, ℕ, suc, ◌+◌, ◌-◌, ◌<◌, true, List, [], ◌∷◌, ◌++◌, get_or, length, map, ap, sym, subst, ◌∙◌}
 use Rattle.std.proofs.Common.{inl, inr, arith}
 use Rattle.std.specs.List.{All}
 use Rattle.std.proofs.lemmas.Bool.{cases_lt, eqb-true}
@@ -162,13 +162,13 @@ module _ (x : Switched) (dealt : DealtRecords) (is : IsDealt x dealt) where
         ∙ ap (its_replies dealt) stands
         ∙ replies_are k plan inside stands
         ∙ ap (λ (q : OnePlan). replies_of x.head.lot q.plan mixed (chosen k) q.opening) one in
-        let behind : get_or (lists ++ strays ∷ []) (length x.plans) []
+        let at_end : get_or (lists ++ strays ∷ []) (length x.plans) []
         ≡ map (λ place. stray_reply (doors_of x.plans) (request_at x place)) (chosen (length x.plans)) =
         ap (λ n. get_or (lists ++ strays ∷ []) n []) (sym long_lists) ∙ get_or-append_seam lists strays [] []
         ∙ last ∙ strays_are in
         record {
           replies = subst (AreReplies (routed_reply x) (numbers_of x)) (sym all)
-              (are_routed x apart (lists ++ strays ∷ []) long each behind);
+              (are_routed x apart (lists ++ strays ∷ []) long each at_end);
           outputs = outputs ∙ same_mapped (its_output dealt) opened (plan_output x) plans output_is
               ∙ ap (map (plan_output x)) (sym are);
         }

@@ -84,8 +84,8 @@ other_head head sent other stamp e =
     other (e ∙ ap (response_head head) (sym same))
 
 -- what a test didn't find isn't there
-pub not_told : {P : Type 0} (told : Bool) → told ≡ false → (IsTrue told ↔ P) → P → ⊥
-not_told told isnt decides p = let is : told ≡ true = decides.1 p in absurd (let bad : true ≡ false = sym is ∙ isnt in cc)
+pub not_true : {P : Type 0} (b : Bool) → b ≡ false → (IsTrue b ↔ P) → P → ⊥
+not_true b isnt decides p = let is : b ≡ true = decides.1 p in absurd (let bad : true ≡ false = sym is ∙ isnt in cc)
 
 pub detail_differs : (own its details asked : List Detail) (place : ℕ) → its ≡ own → asked ≡ details
     → IsOtherDetail its asked place → IsOtherDetail own details place

@@ -2,7 +2,7 @@
 use Rattle.std.proofs.Common.{◌≡◌, ℕ, zero, suc, ◌+◌, ◌<◌, List, [], ◌∷◌, ◌++◌, Some, get_or, length, map, take, refl, ap, sym, subst}
 use Rattle.std.proofs.Common.{◌∙◌, arith}
 use Rattle.std.specs.List.{AllZip, slice_get}
-use Rattle.std.proofs.lemmas.List.{map-append, take_all, take_more}
+use Rattle.std.proofs.lemmas.List.{map-append, take_more}
 use Rattle.rayon.proofs.ListFacts.{AllZip-append}
 
 module _ {A B : Type 0} (R : A → B → Type 0) where
@@ -54,12 +54,6 @@ module _ {A B : Type 0} (R : A → B → Type 0) where
         ap (map f) more ∙ map-append f (take i cs) (c ∷ []) in
         subst (λ (xs : List A). AllZip R xs (ys ++ y ∷ [])) (sym mapped)
         (AllZip-append R (map f (take i cs)) (f c ∷ []) ys (y ∷ []) each (one, tt))
-
-    -- all of them
-    pub zipped_all : (cs : List C) (ys : List B) (i : ℕ) → length cs ≡ i → AllZip R (map f (take i cs)) ys
-        → AllZip R (map f cs) ys
-    zipped_all cs ys i long each =
-        subst (λ (all : List C). AllZip R (map f all) ys) (take_all i cs (omega (arith, long))) each
 
 -- the next of each
 pub zipped_next : {A B : Type 0} (R : A → B → Type 0) (xs : List A) (ys : List B) (i : ℕ) (d : A) (y : B) → i < length xs

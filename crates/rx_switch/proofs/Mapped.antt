@@ -1,5 +1,5 @@
 -- What is made of the items of a list that know their places.
-use Rattle.std.proofs.Common.{◌≡◌, ℕ, zero, suc, ◌+◌, ◌<◌, List, [], ◌∷◌, get_or, length, map, refl, ap, sym, ◌∙◌, arith}
+use Rattle.std.proofs.Common.{◌≡◌, ℕ, suc, ◌<◌, List, [], ◌∷◌, get_or, length, map, refl, ap, sym, ◌∙◌, arith}
 use Rattle.std.specs.List.{AllZip}
 
 -- what is the same of each item, seen one way, is the same of the list

@@ -1,6 +1,6 @@
 -- The plans of a switch are opened one after another.
 use Rattle.std.proofs.Common.{◌≡◌, ℕ, ◌+◌, ◌<◌, Bool, true, false, not, List, [], ◌∷◌, ◌++◌, get_or, length, map, take, refl, ap, sym}
-use Rattle.std.proofs.Common.{subst, ◌∙◌, arith, Ok, Some}
+use Rattle.std.proofs.Common.{subst, ◌∙◌, arith, Ok}
 use Rattle.std.specs.Prelude.{IfOk, IfSome, Result, Err}
 use Rattle.std.specs.Result.{result_ok}
 use Rattle.std.specs.List.{AllZip, list_any, range_with_len, slice_get}
@@ -17,7 +17,7 @@ use Rattle.rx_switch.specs.declared.route_job.PlanJob.{PlanJob}
 use Rattle.rx_switch.specs.Output.{stamp_for}
 use Rattle.rx_switch.specs.RouteParts.{AreNumbered, opened, plan_texts}
 use Rattle.rx_switch.specs.RouteRefused.{IsNext}
-use Rattle.rx_switch.specs.Routed.{AreAccepted, OnePlan, PlanStandsFor, PlanTexts, SwitchGiven, are_apart, door_of, doors_of}
+use Rattle.rx_switch.specs.Routed.{AreAccepted, PlanStandsFor, PlanTexts, SwitchGiven, are_apart, door_of, doors_of}
 use Rattle.rx_switch.proofs.Routing.{or_parts}
 
 pub AllZip-more : {A B : Type 0} (R : A → B → Type 0) (xs : List A) (ys : List B) (x : A) (y : B) → AllZip R xs ys → R x y
@@ -38,10 +38,10 @@ apart-more [] d apart none = refl
 apart-more (e ∷ doors) d apart none =
     let parts = and_parts (not (list_any (names_plan e) doors)) (are_apart doors) apart in
     let others = or_parts (names_plan e d) (list_any (λ f. names_plan f d) doors) none in
-    let behind : list_any (names_plan e) (doors ++ d ∷ []) ≡ false =
+    let named_by_none : list_any (names_plan e) (doors ++ d ∷ []) ≡ false =
     list_any-append (names_plan e) doors (d ∷ [])
     ∙ rw (not_is (list_any (names_plan e) doors) parts.0, others.0) refl in
-    and_from (not (list_any (names_plan e) (doors ++ d ∷ []))) (are_apart (doors ++ d ∷ [])) (ap not behind)
+    and_from (not (list_any (names_plan e) (doors ++ d ∷ []))) (are_apart (doors ++ d ∷ [])) (ap not named_by_none)
     (apart-more doors d parts.1 others.1)
 
 -- one number more

@@ -2,7 +2,7 @@
 use Rattle.std.proofs.Common.{◌≡◌, ℕ, zero, suc, ◌+◌, ◌-◌, ◌<◌, ◌≤◌, Bool, true, false, not, ◌||◌, List, [], ◌∷◌, ◌++◌, get_or, length}
 use Rattle.std.proofs.Common.{map, take, refl, ap, sym, subst, ◌∙◌, inl, inr, arith}
 use Rattle.std.specs.Cmp.Lexicographic.{same_text}
-use Rattle.std.specs.List.{list_any, range_with_len}
+use Rattle.std.specs.List.{list_any}
 use Rattle.std.proofs.lemmas.Bool.{and_from, and_parts, both_ways, cases_Bool, cases_lt, eq-eqb, eqb-true, false_from_ne_true}
 use Rattle.std.proofs.lemmas.Cmp.{nat_list_eq_equiv}
 use Rattle.std.proofs.lemmas.List.{get_or-map, get_or_default, length-map, map-append}
@@ -15,7 +15,7 @@ use Rattle.rx_d0_values.specs.declared.reply.Reply.{Reply}
 use Rattle.rx_d0_values.specs.declared.transmission.Transmission.{Transmission}
 use Rattle.rx_fields.specs.Numbered.{LotParts}
 use Rattle.rx_fields.specs.declared.door.Door.{Door}
-use Rattle.rx_ledger.specs.Fold.{fold_ledger, fold_replies, ledger_after, reply_to}
+use Rattle.rx_ledger.specs.Fold.{fold_ledger, ledger_after, reply_to}
 use Rattle.rx_ledger.specs.Ledger.{Ledger}
 use Rattle.rx_ledger.specs.Plan.{Plan}
 use Rattle.rx_schedule.specs.Footprints.{no_record, record_at}
@@ -32,7 +32,7 @@ use Rattle.rx_switch.specs.Output.{asked, ledger_at_end, replies}
 use Rattle.rx_switch.specs.Own.{no_reply, own_records, run_replies}
 use Rattle.rx_switch.specs.RouteParts.{numbers_of}
 use Rattle.rx_switch.specs.Routed.{OnePlan, Switched, are_apart, door_of, doors_of, is_own, no_detail, own_replies}
-use Rattle.rx_switch.specs.Routed.{reply_among, request_at, routed_replies, routed_reply, run_of}
+use Rattle.rx_switch.specs.Routed.{reply_among, request_at, routed_reply, run_of}
 use Rattle.rx_switch.proofs.Replied.{one_each}
 use Rattle.rx_switch.proofs.Alone.{alone_end, alone_replies, map_places, places_alike, same_ledger, same_replies}
 
@@ -289,8 +289,8 @@ module _ (x : Switched) (p : OnePlan) where
   abbrev theirs : ℕ → Bool
   theirs = is_own x (door_of p)
 
-  abbrev told : ℕ → ℕ × List ℕ
-  told place = (place, request_at x place)
+  abbrev asked_at : ℕ → ℕ × List ℕ
+  asked_at place = (place, request_at x place)
 
   it_there : (i : ℕ) → 1 ≤ i → i ≤ length x.details → record_at its i ≡ transmission_of (door_of p) (request_at x i)
   it_there i one to =
@@ -306,7 +306,7 @@ module _ (x : Switched) (p : OnePlan) where
       (it_there i one (omega (arith, to, long_its)) ∙ missed_rejected (request_at x i) (door_of p) other)
 
   along_own : (n : ℕ) → n ≤ length x.details → ledger_of x.head.lot p.plan its (places_of theirs n) p.opening
-      ≡ along x.head.lot p.plan (door_of p) (map told (places_of theirs n)) p.opening
+      ≡ along x.head.lot p.plan (door_of p) (map asked_at (places_of theirs n)) p.opening
   along_own zero to = refl
   along_own (suc n) to =
       let before = along_own n (omega arith) in
@@ -314,15 +314,15 @@ module _ (x : Switched) (p : OnePlan) where
         | inl is ↦ rw is (ledger-snoc x.head.lot p.plan its (places_of theirs n) (suc n) p.opening
             ∙ ap (ledger_after x.head.lot p.plan (suc n) (record_at its (suc n))) before
             ∙ ap (λ t. ledger_after x.head.lot p.plan (suc n) t
-            (along x.head.lot p.plan (door_of p) (map told (places_of theirs n)) p.opening)) (it_there (suc n) (omega arith) to)
-            ∙ sym (along-snoc x.head.lot p.plan (door_of p) (map told (places_of theirs n)) (told (suc n)) p.opening)
+            (along x.head.lot p.plan (door_of p) (map asked_at (places_of theirs n)) p.opening)) (it_there (suc n) (omega arith) to)
+            ∙ sym (along-snoc x.head.lot p.plan (door_of p) (map asked_at (places_of theirs n)) (asked_at (suc n)) p.opening)
             ∙ ap (λ rs. along x.head.lot p.plan (door_of p) rs p.opening)
-            (sym (map-append told (places_of theirs n) (suc n ∷ []))))
+            (sym (map-append asked_at (places_of theirs n) (suc n ∷ []))))
         | inr other ↦ rw other before
       ]
 
   replied_own : (n : ℕ) → n ≤ length x.details → replies_of x.head.lot p.plan its (places_of theirs n) p.opening
-      ≡ replied x.head.lot p.plan (door_of p) (map told (places_of theirs n)) p.opening
+      ≡ replied x.head.lot p.plan (door_of p) (map asked_at (places_of theirs n)) p.opening
   replied_own zero to = refl
   replied_own (suc n) to =
       let before = replied_own n (omega arith) in
@@ -331,15 +331,15 @@ module _ (x : Switched) (p : OnePlan) where
         | inl is ↦ rw is (replies-snoc x.head.lot p.plan its (places_of theirs n) (suc n) p.opening
             ∙ ap (λ rs. rs ++ reply_to x.head.lot p.plan (suc n) (record_at its (suc n))
             (ledger_of x.head.lot p.plan its (places_of theirs n) p.opening) ∷ []) before
-            ∙ ap (λ t. replied x.head.lot p.plan (door_of p) (map told (places_of theirs n)) p.opening
+            ∙ ap (λ t. replied x.head.lot p.plan (door_of p) (map asked_at (places_of theirs n)) p.opening
             ++ reply_to x.head.lot p.plan (suc n) t
             (ledger_of x.head.lot p.plan its (places_of theirs n) p.opening) ∷ []) there
-            ∙ ap (λ M. replied x.head.lot p.plan (door_of p) (map told (places_of theirs n)) p.opening
+            ∙ ap (λ M. replied x.head.lot p.plan (door_of p) (map asked_at (places_of theirs n)) p.opening
             ++ reply_to x.head.lot p.plan (suc n) (transmission_of (door_of p) (request_at x (suc n))) M ∷ [])
             (along_own n (omega arith))
-            ∙ sym (replied-snoc x.head.lot p.plan (door_of p) (map told (places_of theirs n)) (told (suc n)) p.opening)
+            ∙ sym (replied-snoc x.head.lot p.plan (door_of p) (map asked_at (places_of theirs n)) (asked_at (suc n)) p.opening)
             ∙ ap (λ rs. replied x.head.lot p.plan (door_of p) rs p.opening)
-            (sym (map-append told (places_of theirs n) (suc n ∷ []))))
+            (sym (map-append asked_at (places_of theirs n) (suc n ∷ []))))
         | inr other ↦ rw other before
       ]
 
@@ -433,6 +433,3 @@ module _ (x : Switched) (apart : are_apart (doors_of x.plans) ≡ true) (lists :
     each = λ k low. of_list k low
         ∙ ap (λ n. map (routed_reply x) (places_of (is_of (number_in (numbers_of x)) k) n)) (sym one_number);
   }
-
-  pub all_routed : map (routed_reply x) (range_with_len 1 (length (numbers_of x))) ≡ routed_replies x
-  all_routed = ap (λ n. map (routed_reply x) (range_with_len 1 n)) one_number

@@ -1,6 +1,6 @@
 -- What a switch gives of a plan is what that plan's run of the whole batch gives.
-use Rattle.std.proofs.Common.{◌≡◌, ℕ, zero, suc, ◌+◌, ◌-◌, ◌<◌, ◌≤◌, List, [], ◌∷◌, Some, get_or, length, map, refl, ap, sym, ◌∙◌, arith}
-use Rattle.std.specs.List.{AllZip, range_with_len, slice_get}
+use Rattle.std.proofs.Common.{◌≡◌, ℕ, zero, suc, ◌+◌, ◌-◌, ◌<◌, List, [], ◌∷◌, Some, get_or, length, refl, ap, sym, ◌∙◌, arith}
+use Rattle.std.specs.List.{AllZip, slice_get}
 use Rattle.std.specs.Option.{option_map}
 use Rattle.std.proofs.lemmas.List.FromFn.{get_or-map-range_with_len, length-map-range_with_len}
 use Rattle.std.proofs.lemmas.Option.{get_or_from_slice_get, slice_get-map, slice_get_within}
@@ -10,7 +10,7 @@ use Rattle.rx_response.specs.Response.{response_detail, response_details, respon
 use Rattle.rx_switch.specs.Output.{IsOutput, Texts, replies, texts_of}
 use Rattle.rx_switch.specs.Own.{no_reply}
 use Rattle.rx_switch.specs.Routed.{IsRouted, OnePlan, PlanOutput, PlanStandsFor, PlanTexts, SwitchGiven, SwitchTexts, door_of}
-use Rattle.rx_switch.specs.Routed.{given_to, is_own, no_detail, plan_output, routed_replies, routed_reply, run_of}
+use Rattle.rx_switch.specs.Routed.{given_to, no_detail, plan_output, routed_replies, routed_reply, run_of}
 use Rattle.rx_switch.specs.Runs.{AnswersAlike}
 use Rattle.rx_switch.proofs.OneOutput.{same_texts}
 use Rattle.rx_switch.proofs.Replied.{replied}

@@ -1,15 +1,12 @@
 -- A run whose inputs are accepted gives its texts, or is stopped by lack of memory or of a thread.
 use Rattle.std.proofs.Common.{◌≡◌, ℕ, Bool, true, false, List, Result, Ok, Err, refl, sym, ◌∙◌, inl, inr}
 use Rattle.std.specs.Prelude.{IfErr, IfOk}
-use Rattle.std.proofs.lemmas.Bool.{cases_Bool, false≢true}
+use Rattle.std.proofs.lemmas.Bool.{cases_Bool}
 use Rattle.std.proofs.lemmas.Result.{IfErr-at_err}
 use Rattle.rx_fields.specs.declared.stamp.Stamp.{Stamp}
-use Rattle.rx_wave.specs.declared.run_fault.RunFault.{RunFault}
-use Rattle.rx_wave.specs.declared.run_fault.RunFault.TheVariants as run
-use Rattle.rx_wave.specs.Workers.{RefusesOne as GateRefusesOne, are_workers}
+use Rattle.rx_wave.specs.Workers.{are_workers}
 use Rattle.rx_switch.specs.declared.fault.SwitchFault.{SwitchFault}
 use Rattle.rx_switch.specs.declared.fault.SwitchFault.TheVariants as fault
-use Rattle.rx_switch.specs.Fault.{of_run}
 use Rattle.rx_switch.specs.Output.{Accepted, Given, IsOutput, IsRefused, IsStopped, RefusesOne, StandFor, Texts, stamp_for, texts_of}
 use Rattle.rx_switch.specs.Output.IsRefused.{memory as refused_memory, thread as refused_thread}
 
@@ -24,14 +21,6 @@ workers_of_stamp workers stamp s e = elim (cases_Bool (are_workers workers)) [
 ]
 
 module _ (plain : Bool) (starts : ℕ → Bool) (workers : ℕ) where
-  -- the faults of the workers stop a run that isn't plain
-  pub of_workers : plain ≡ false → are_workers workers ≡ true → (f : RunFault)
-      → (f ≡ run.Workers → are_workers workers ≡ false) → (f ≡ run.Thread → GateRefusesOne starts workers)
-      → IsStopped plain starts workers (of_run f)
-  of_workers parallel good run.Workers outside refuses = absurd (false≢true (sym (outside refl) ∙ good))
-  of_workers parallel good run.Memory outside refuses = tt
-  of_workers parallel good run.Thread outside refuses = record { parallel = parallel; of_gate = refuses refl }
-
   -- the definitions refuse a run that is stopped, whose inputs are accepted
   pub refuses : (g : Given) (x : Accepted) → StandFor g x → (f : SwitchFault) → IsStopped plain starts workers f → IsRefused g f
   refuses g x accepted fault.Workers h = absurd h

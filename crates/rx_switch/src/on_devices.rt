@@ -55,10 +55,10 @@ pub fn run_io<
     requires response { D.failed outputs.old.response ≡ false }
     requires end_books { E.failed outputs.old.books ≡ false }
     requires settlement { F.failed outputs.old.settlement ≡ false }
-    ensures done { let told = devices_of A.left B.left C.left D.written E.written F.written in
-        OnOk result (IsDone stamp.now workers (told inputs.old outputs.old) (told inputs.new outputs.new)) }
-    ensures broken { let told = devices_of A.left B.left C.left D.written E.written F.written in
-        IfErr result (IsBroken stamp.now workers (told inputs.old outputs.old) (told inputs.new outputs.new)) }
+    ensures done { let devices = devices_of A.left B.left C.left D.written E.written F.written in
+        OnOk result (IsDone stamp.now workers (devices inputs.old outputs.old) (devices inputs.new outputs.new)) }
+    ensures broken { let devices = devices_of A.left B.left C.left D.written E.written F.written in
+        IfErr result (IsBroken stamp.now workers (devices inputs.old outputs.old) (devices inputs.new outputs.new)) }
     // A device failed in the run exactly where the answer says it.
     ensures sheet { A.failed inputs.new.sheet ≡ has_failed device.Sheet result }
     ensures books { B.failed inputs.new.books ≡ has_failed device.Books result }

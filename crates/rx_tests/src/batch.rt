@@ -128,10 +128,10 @@ fn reads_one_billing(rt: HostRuntime) {
 }
 
 // A file is written as this one, once it was read.
-fn is_written(rt: &impl Abort, alloc: Global, file: &[u8], wanted: &[u8]) {
+fn is_written(rt: &impl Abort, alloc: Global, file: &[u8], expected: &[u8]) {
     let batch = read_batch(alloc, file).expect(rt, "a batch");
     let written = write_batch(alloc, &batch.head, batch.details.as_slice());
-    same!(*rt; written.expect(rt, "memory").as_slice(), wanted);
+    same!(*rt; written.expect(rt, "memory").as_slice(), expected);
 }
 
 #[test]

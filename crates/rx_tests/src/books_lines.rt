@@ -159,16 +159,16 @@ fn taken(rt: &impl Abort, alloc: Global, pieces: &Pieces, most: usize) -> Vec<u8
 }
 
 // The text of the books is this one, however it is written.
-fn is_written<R: Threads + Sync + Abort>(rt: &R, alloc: Global, books: &Books, wanted: &[u8]) {
+fn is_written<R: Threads + Sync + Abort>(rt: &R, alloc: Global, books: &Books, expected: &[u8]) {
     let text = books.write(alloc).expect(rt, "memory");
-    same(rt, text.as_slice(), wanted);
+    same(rt, text.as_slice(), expected);
     for parts in 1..MOST {
         let pieces = books.write_pieces(rt, alloc, parts).expect(rt, "memory");
-        same(rt, taken(rt, alloc, &pieces, 7).as_slice(), wanted);
-        same(rt, taken(rt, alloc, &pieces, 9999).as_slice(), wanted);
+        same(rt, taken(rt, alloc, &pieces, 7).as_slice(), expected);
+        same(rt, taken(rt, alloc, &pieces, 9999).as_slice(), expected);
         let text = pieces.joined(alloc).expect(rt, "memory");
-        same(rt, text.as_slice(), wanted);
-        is_written_in_parts(rt, alloc, books, parts, wanted);
+        same(rt, text.as_slice(), expected);
+        is_written_in_parts(rt, alloc, books, parts, expected);
     }
 }
 
@@ -178,7 +178,7 @@ fn is_written_in_parts<R: Threads + Sync + Abort>(
     alloc: Global,
     books: &Books,
     parts: usize,
-    wanted: &[u8],
+    expected: &[u8],
 ) {
     let mut text = Vec::new(alloc);
     let list = books.write_parts(rt, alloc, parts).expect(rt, "memory");
@@ -186,7 +186,7 @@ fn is_written_in_parts<R: Threads + Sync + Abort>(
         let more = taken(rt, alloc, pieces, 7);
         text.extend_from_slice(&more).expect(rt, "memory");
     }
-    same(rt, text.as_slice(), wanted);
+    same(rt, text.as_slice(), expected);
 }
 
 #[test]
@@ -196,8 +196,8 @@ fn touched_claims_are_written(rt: HostRuntime) {
         for parts in 1..MOST {
             let books = touched(&rt, alloc, kept(&rt, alloc, parts, *claims), touches);
             let ledger = books.ledger(alloc).expect(&rt, "memory");
-            let wanted = written_anew(&rt, alloc, &ledger);
-            is_written(&rt, alloc, &books, &wanted);
+            let expected = written_anew(&rt, alloc, &ledger);
+            is_written(&rt, alloc, &books, &expected);
         }
     }
 }

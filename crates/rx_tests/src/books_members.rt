@@ -72,9 +72,9 @@ fn cleared(rt: &impl Abort, alloc: Global, books: Books, times: usize) -> Books 
 }
 
 // The text of the books is this one.
-fn is_written(rt: &impl Abort, alloc: Global, books: &Books, wanted: &[u8]) {
+fn is_written(rt: &impl Abort, alloc: Global, books: &Books, expected: &[u8]) {
     let text = books.write(alloc).expect(rt, "memory");
-    same(rt, text.as_slice(), wanted);
+    same(rt, text.as_slice(), expected);
 }
 
 #[test]

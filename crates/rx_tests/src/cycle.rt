@@ -28,11 +28,11 @@ fn a_file_of_many_replies_comes_to_their_settlement(rt: HostRuntime) {
     assert!(rt; details.len() == 3000 && replies.len() == 3000);
     let stamp = Stamp::new(b"202603020600").expect(&rt, "a stamp");
     let text = settled_back(&rt, rt.alloc(), &head(&rt), &details, &stamp, &replies).ok();
-    let wanted = "SETTLE|1|0000042|202603020600\nP|1234567893|2571|0|0|429|44156925\n\
+    let expected = "SETTLE|1|0000042|202603020600\nP|1234567893|2571|0|0|429|44156925\n\
         TOTAL|2571|0|0|429|44156925\n";
     same(
         &rt,
         text.expect(&rt, "a text").as_slice(),
-        wanted.as_bytes(),
+        expected.as_bytes(),
     );
 }

@@ -13,9 +13,9 @@ fn bytes_in_each_style(rt: HostRuntime) {
         (Style::Json, "A\\u005CB<i>\\u0022C'&\\u001B\\u0000\\u00FF;"),
         (Style::Terminal, "A\\x5CB<i>\"C'&\\x1B\\x00\\xFF;"),
     ];
-    for (style, wanted) in cases {
+    for (style, expected) in cases {
         let mut text = Vec::new(rt.alloc());
         put_escaped(&mut text, style, bytes).expect(&rt, "memory");
-        same(&rt, text.as_slice(), wanted.as_bytes());
+        same(&rt, text.as_slice(), expected.as_bytes());
     }
 }

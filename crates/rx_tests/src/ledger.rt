@@ -45,7 +45,7 @@ fn standing(rt: &impl Abort, reference: u64, family: &[u8]) -> Row {
 }
 
 #[test]
-fn a_coverage_has_an_end_at_or_behind_its_beginning(rt: HostRuntime) {
+fn a_coverage_has_an_end_at_or_after_its_beginning(rt: HostRuntime) {
     same(&rt, member(&rt, b"C100", b"01", b"20251231"), None);
     same(
         &rt,

@@ -51,8 +51,8 @@ fn plans_in_the_order_of_the_file(rt: HostRuntime) {
         "north/books.txt",
         "north/books-out.txt",
     ];
-    for (text, wanted) in texts(first).iter().zip(north.iter()) {
-        same(&rt, *text, Some(*wanted));
+    for (text, expected) in texts(first).iter().zip(north.iter()) {
+        same(&rt, *text, Some(*expected));
     }
     same(&rt, texts(first)[4], None);
     same(&rt, texts(first)[5], None);
@@ -103,13 +103,13 @@ const DAMAGED: &[(&str, &str, PlansFault)] = &[
 
 #[test]
 fn the_first_fault_of_a_plans_file(rt: HostRuntime) {
-    for (front, rest, wanted) in DAMAGED {
+    for (front, rest, expected) in DAMAGED {
         let mut text = String::from_str(rt.alloc(), front).expect(&rt, "memory");
         text.push_str(rest).expect(&rt, "memory");
         same(
             &rt,
             read_plans(rt.alloc(), text.as_bytes()).err(),
-            Some(*wanted),
+            Some(*expected),
         );
     }
     same(

@@ -85,7 +85,7 @@ fn written(alloc: Global) -> Result<Vec<u8>, AllocError> {
 #[test]
 fn replies_stand_in_file_order(rt: HostRuntime) {
     let (details, replies) = (details(&rt, rt.alloc()), replies(&rt, rt.alloc()));
-    let wanted = written(rt.alloc()).expect(&rt, "memory");
+    let expected = written(rt.alloc()).expect(&rt, "memory");
     assert!(rt; details.len() == 3000 && replies.len() == 3000);
     let (head, stamp) = (
         head(&rt),
@@ -93,5 +93,5 @@ fn replies_stand_in_file_order(rt: HostRuntime) {
     );
     let text = response_file(&rt, rt.alloc(), &head, stamp, &details, &replies);
     let text = text.expect(&rt, "memory");
-    same(&rt, text.as_slice(), wanted.as_slice());
+    same(&rt, text.as_slice(), expected.as_slice());
 }

@@ -3,8 +3,8 @@
 use std::process::Abort;
 
 /// What is given is what is expected.
-pub(crate) fn same<T: PartialEq + Drop>(rt: &impl Abort, given: T, wanted: T) {
-    assert!(rt; given == wanted);
+pub(crate) fn same<T: PartialEq + Drop>(rt: &impl Abort, given: T, expected: T) {
+    assert!(rt; given == expected);
 }
 
 /// What is given is not this other value.

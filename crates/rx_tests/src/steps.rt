@@ -10,6 +10,6 @@ fn books_of_a_million_lines(rt: HostRuntime) {
         micros: Some(214_999),
     };
     let line = step_line(rt.alloc(), &step).expect(&rt, "memory");
-    let wanted = b"books        990,001 lines  78.0 MB  0.21 s\n";
-    same(&rt, line.as_slice(), wanted.as_slice());
+    let expected = b"books        990,001 lines  78.0 MB  0.21 s\n";
+    same(&rt, line.as_slice(), expected.as_slice());
 }

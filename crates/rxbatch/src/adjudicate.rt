@@ -3,7 +3,7 @@ use crate::ending::Ending;
 use crate::file_fault::{FileFault, ProgramFile};
 use crate::moment::{stamp_or_now, workers_or_all};
 use crate::places::make_folder;
-use crate::run_files::{run_as, tell_stamp};
+use crate::run_files::{print_stamp, run_as};
 use crate::settings::{RunManner, RunPlan};
 use crate::shown_path::shown_path;
 use crate::texts::{open_each, read_opened};
@@ -31,7 +31,7 @@ pub fn adjudicate<R: Threads + Wait + Sync>(
     make_out(rt, words.out)?;
     let stamp = stamp_or_now(rt, words.stamp)?;
     if !words.quiet {
-        tell_stamp(rt, stamp.as_str());
+        print_stamp(rt, stamp.as_str());
     }
     let workers = workers_or_all(threads, words.workers);
     let manner = RunManner::of_adjudicate(words, workers, rt.stderr().is_terminal());

@@ -60,7 +60,7 @@ fn text_if_given(
 /// The ending of a check where a file can't be read or is refused; why, is printed.
 pub fn unread(rt: &HostRuntime, ending: Ending) -> Ending {
     match ending {
-        Ending::InWords(numbers, line) => match told(rt, line) {
+        Ending::InWords(numbers, line) => match print_ended(rt, line) {
             Ok(()) => Ending::Bare(numbers),
             Err(output) => output,
         },
@@ -69,7 +69,7 @@ pub fn unread(rt: &HostRuntime, ending: Ending) -> Ending {
 }
 
 // Prints a line, where there is memory for its end.
-fn told(rt: &HostRuntime, mut line: String) -> Result<(), Ending> {
+fn print_ended(rt: &HostRuntime, mut line: String) -> Result<(), Ending> {
     if line.push('\n').is_err() {
         return Ok(());
     }

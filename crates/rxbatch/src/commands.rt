@@ -25,7 +25,7 @@ use rx_commands::{
     number_asked, provider_asked, record_asked, reference_asked, report_folder, show_table,
     stamp_asked,
 };
-use rx_explain::Wanted;
+use rx_explain::Query;
 use rx_fields::{Memory, Provider, Stamp};
 use rx_io::{Device, Inputs, Outputs};
 use rx_report::Portion;
@@ -100,7 +100,7 @@ pub fn sample(rt: &HostRuntime) -> Result<(), Ending> {
 }
 
 /// Prints the version or the help, which the words ask for.
-pub fn told(rt: &HostRuntime, asked: &WordsFault) -> Result<(), Ending> {
+pub fn print_asked(rt: &HostRuntime, asked: &WordsFault) -> Result<(), Ending> {
     print!(rt; "{asked}").map_err(Ending::of_standard_output)
 }
 
@@ -115,7 +115,7 @@ pub fn fault(rt: &HostRuntime, numbers: &FaultNumbers) -> Result<(), Ending> {
     let line = match fault_numbered(kind, within, place) {
         Some(SwitchFault::Workers) => String::from_str(alloc, "the workers aren't 1 to 64"),
         Some(SwitchFault::Stamp) => String::from_str(alloc, "the stamp is no date and time"),
-        Some(fault) => return told_fault(rt, fault),
+        Some(fault) => return fault_of_run(rt, fault),
         None => return other_fault(rt, kind, within, place),
     };
     print_line(rt, line?)
@@ -139,7 +139,7 @@ fn other_fault(rt: &HostRuntime, kind: u64, within: u64, place: u64) -> Result<(
     }
 }
 
-fn told_fault(rt: &HostRuntime, fault: SwitchFault) -> Result<(), Ending> {
+fn fault_of_run(rt: &HostRuntime, fault: SwitchFault) -> Result<(), Ending> {
     let names = Inputs {
         sheet: "sheet",
         books: "books",
@@ -203,12 +203,12 @@ pub fn explained<'x, R: Threads + Sync>(
     reader: Option<Provider>,
     response: Option<&[u8]>,
 ) -> Result<Printed, ExplainFault> {
-    let wanted = wanted_by(&words.asked);
+    let query = query_of(&words.asked);
     let (alloc, manner) = (rt.alloc(), manner_by(words));
     match reader {
-        None => rx_commands::explain(threads, alloc, inputs, &wanted, response, manner),
+        None => rx_commands::explain(threads, alloc, inputs, &query, response, manner),
         Some(provider) => {
-            explain_for(threads, alloc, inputs, &wanted, &provider, response, manner)
+            explain_for(threads, alloc, inputs, &query, &provider, response, manner)
         }
     }
 }
@@ -272,7 +272,7 @@ fn manner_by(words: &ExplainWords<'_>) -> Manner {
     }
 }
 
-fn wanted_by(asked: &Asked<'_>) -> Wanted {
+fn query_of(asked: &Asked<'_>) -> Query {
     match asked {
         Asked::Record(place) => record_asked(place),
         Asked::Number(number) => number_asked(number),

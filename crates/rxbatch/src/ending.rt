@@ -246,7 +246,7 @@ impl Ending {
     }
 
     /// Writes the line or the text of it to standard error; nothing where the reader of standard output is gone.
-    pub fn tell(&self, rt: &HostRuntime) {
+    pub fn print(&self, rt: &HostRuntime) {
         let _ = match self {
             Ending::NoText => eprintln!(rt; "rxbatch: an argument isn't valid UTF-8"),
             Ending::OneFile(one, other) => eprintln!(rt;
@@ -260,14 +260,14 @@ impl Ending {
                 eprintln!(rt; "rxbatch: {option}: expected {expected}")
             }
             Ending::Words(fault) => eprint!(rt; "{fault}"),
-            Ending::Refused(fault) => tell_numbers(rt, numbers_of(*fault)),
+            Ending::Refused(fault) => print_numbers(rt, numbers_of(*fault)),
             Ending::File(fault) if fault.is_closed_output() => Ok(()),
-            Ending::File(fault) => tell_numbers(rt, Numbers::File(fault.file.number())),
+            Ending::File(fault) => print_numbers(rt, Numbers::File(fault.file.number())),
             Ending::InWords(numbers, line) => {
-                let _ = tell_numbers(rt, *numbers);
+                let _ = print_numbers(rt, *numbers);
                 eprintln!(rt; "{line}")
             }
-            Ending::Bare(numbers) => tell_numbers(rt, *numbers),
+            Ending::Bare(numbers) => print_numbers(rt, *numbers),
             Ending::Stopped(line) | Ending::Conflict(line) => eprintln!(rt; "rxbatch: {line}"),
             Ending::NotFound(line) => rt.stderr().write_all(line.as_slice()),
             Ending::Warned | Ending::Differs => Ok(()),
@@ -281,25 +281,25 @@ pub fn numbers_of(refused: SwitchFault) -> Numbers {
 }
 
 // Writes the line of a refused run, or of a file that failed.
-fn tell_numbers(rt: &HostRuntime, numbers: Numbers) -> io::Result<()> {
+fn print_numbers(rt: &HostRuntime, numbers: Numbers) -> io::Result<()> {
     match numbers {
-        Numbers::Refused(numbers) => tell_refusal(rt, numbers),
-        Numbers::File(number) => tell_file(rt, number),
-        Numbers::Response(numbers) => tell_two(rt, "response", numbers),
-        Numbers::Reply(numbers) => tell_two(rt, "reply", numbers),
+        Numbers::Refused(numbers) => print_refusal(rt, numbers),
+        Numbers::File(number) => print_failed_file(rt, number),
+        Numbers::Response(numbers) => print_two(rt, "response", numbers),
+        Numbers::Reply(numbers) => print_two(rt, "reply", numbers),
     }
 }
 
-fn tell_refusal(rt: &HostRuntime, numbers: [u64; 3]) -> io::Result<()> {
+fn print_refusal(rt: &HostRuntime, numbers: [u64; 3]) -> io::Result<()> {
     let [first, second, third] = numbers;
     eprintln!(rt; "refused {first} {second} {third}")
 }
 
-fn tell_two(rt: &HostRuntime, word: &str, numbers: [u64; 2]) -> io::Result<()> {
+fn print_two(rt: &HostRuntime, word: &str, numbers: [u64; 2]) -> io::Result<()> {
     let [number, place] = numbers;
     eprintln!(rt; "{word} {number} {place}")
 }
 
-fn tell_file(rt: &HostRuntime, number: u64) -> io::Result<()> {
+fn print_failed_file(rt: &HostRuntime, number: u64) -> io::Result<()> {
     eprintln!(rt; "file {number}")
 }

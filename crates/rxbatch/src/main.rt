@@ -77,6 +77,7 @@ mod plans_reported;
 mod plans_verified;
 mod read_again;
 mod refused_text;
+mod reporter;
 mod route_files;
 mod route_log;
 mod run_files;
@@ -86,12 +87,11 @@ mod settings;
 mod settle;
 mod shown_path;
 mod standard_output;
+mod step_source;
 mod streams;
 mod switch_inputs;
 mod switch_outputs;
-mod teller;
 mod texts;
-mod told_source;
 mod two_outputs;
 mod two_streams;
 mod upkeep_files;
@@ -101,7 +101,7 @@ mod watched_run;
 mod written_texts;
 
 use ending::Ending;
-use negative_workers::tell_negative_workers;
+use negative_workers::print_negative_workers;
 use rx_cli::{Command, WordsFault, command};
 use std::io::IsTerminal;
 use std::process::ExitCode;
@@ -116,7 +116,7 @@ fn main(rt: HostRuntime) -> ExitCode {
     match perform(&rt, &rt) {
         Ok(()) => ExitCode::SUCCESS,
         Err(ending) => {
-            ending.tell(&rt);
+            ending.print(&rt);
             ExitCode::from(ending.status())
         }
     }
@@ -151,10 +151,10 @@ fn perform<R: Threads + Wait + Sync>(rt: &HostRuntime, threads: &R) -> Result<()
         Ok(Command::Replies(path)) => commands::replies(rt, path),
         Ok(Command::Compare(words)) => compare::compare(rt, threads, &words),
         Ok(Command::Settle(words)) => settle::settle(rt, &words),
-        Err(fault) if fault.is_version() => commands::told(rt, &fault),
-        Err(fault) if fault.is_help() && names_help(&words) => commands::told(rt, &fault),
+        Err(fault) if fault.is_version() => commands::print_asked(rt, &fault),
+        Err(fault) if fault.is_help() && names_help(&words) => commands::print_asked(rt, &fault),
         Err(fault) => {
-            tell_negative_workers(rt, words.as_slice());
+            print_negative_workers(rt, words.as_slice());
             Err(Ending::Words(fault))
         }
     }

@@ -1,7 +1,7 @@
 //! Workers below 0, which `clap` takes for an option that it doesn't know.
 
 /// Says what is expected of workers below 0, if words name such.
-pub fn tell_negative_workers(rt: &HostRuntime, words: &[String]) {
+pub fn print_negative_workers(rt: &HostRuntime, words: &[String]) {
     if let Some(number) = negative_workers(words) {
         let _ = eprintln!(rt; "rxbatch: --workers {number}: expected a number from 1 to 64");
     }

@@ -72,7 +72,7 @@ fn verify_read<R: Threads + Sync>(
     let output = inputs.route(rt, threads, batch, words.stamp, words.workers)?;
     let lines = differences(rt, inputs, &output, &files)?;
     if lines.is_empty() {
-        return tell_same(rt, &output);
+        return print_same(rt, &output);
     }
     print(rt, &lines)?;
     Err(Ending::Differs)
@@ -184,7 +184,7 @@ fn put_piece(page: &mut Page, piece: &[u8]) {
     }
 }
 
-fn tell_same(rt: &HostRuntime, output: &RouteOutput) -> Result<(), Ending> {
+fn print_same(rt: &HostRuntime, output: &RouteOutput) -> Result<(), Ending> {
     let (response, settlement) = (output.response.len(), output.settlement.len());
     let plans = output.plans.len();
     let line = format!(in rt.alloc();

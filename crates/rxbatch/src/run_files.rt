@@ -29,17 +29,17 @@ pub fn run<R: Threads + Wait + Sync>(
 ) -> Result<(), Ending> {
     let stamp = stamp_or_now(rt, words.stamp)?;
     let workers = workers_or_all(threads, words.workers);
-    let tells_words = words.verbose || rt.stderr().is_terminal();
+    let explains_refusal = words.verbose || rt.stderr().is_terminal();
     if words.verbose && words.stamp.is_none() {
-        tell_stamp(rt, stamp.as_str());
+        print_stamp(rt, stamp.as_str());
     }
-    let manner = RunManner::of_run(words, workers, tells_words);
+    let manner = RunManner::of_run(words, workers, explains_refusal);
     let plan = RunPlan::of_run(rt.alloc(), words, stamp, manner)?;
     run_as(rt, threads, &plan.settings(None))
 }
 
 /// Says which stamp a run has.
-pub fn tell_stamp(rt: &HostRuntime, stamp: &str) {
+pub fn print_stamp(rt: &HostRuntime, stamp: &str) {
     if let Ok(line) = stamp_line(rt.alloc(), stamp) {
         let _ = eprintln!(rt; "{line}");
     }
@@ -52,7 +52,7 @@ pub fn run_as<R: Threads + Wait + Sync>(
     threads: &R,
     words: &RunSettings<'_>,
 ) -> Result<(), Ending> {
-    let done = if words.manner.tells_words || words.manner.tells_end || words.log.is_some() {
+    let done = if words.manner.explains_refusal || words.manner.reports_end || words.log.is_some() {
         watched_run::run(rt, threads, words)
     } else {
         unwatched(rt, threads, words)
@@ -64,7 +64,7 @@ pub fn run_as<R: Threads + Wait + Sync>(
             }
             Ok(())
         }
-        Err(Ending::File(fault)) if words.manner.tells_words || fault.is_busy() => {
+        Err(Ending::File(fault)) if words.manner.explains_refusal || fault.is_busy() => {
             Err(explained(rt, words, fault))
         }
         Err(ending) => Err(ending),

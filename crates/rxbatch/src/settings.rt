@@ -26,9 +26,9 @@ pub struct RunManner {
     /// The steps are reported.
     pub verbose: bool,
     /// The end is reported.
-    pub tells_end: bool,
+    pub reports_end: bool,
     /// A fault is reported in words too.
-    pub tells_words: bool,
+    pub explains_refusal: bool,
     /// The log has sums.
     pub sums: bool,
 }
@@ -113,15 +113,15 @@ impl RunPlan {
 
 impl RunManner {
     /// That of `run`.
-    pub fn of_run(words: &RunWords<'_>, workers: u16, tells_words: bool) -> RunManner {
+    pub fn of_run(words: &RunWords<'_>, workers: u16, explains_refusal: bool) -> RunManner {
         RunManner {
             workers,
             plain: words.plain,
             desk: words.desk,
             safe: words.safe,
             verbose: words.verbose,
-            tells_end: words.verbose,
-            tells_words,
+            reports_end: words.verbose,
+            explains_refusal,
             sums: words.sums,
         }
     }
@@ -138,8 +138,8 @@ impl RunManner {
             desk: false,
             safe: true,
             verbose: is_terminal && !words.quiet,
-            tells_end: !words.quiet,
-            tells_words: true,
+            reports_end: !words.quiet,
+            explains_refusal: true,
             sums: true,
         }
     }

@@ -6,10 +6,10 @@ use crate::log_file::LogFile;
 use crate::nodes::Node;
 use crate::noted_file::{CodesWritten, LastError, coded_output, noted_output};
 use crate::read_again::ReadInputs;
+use crate::reporter::Reporter;
 use crate::run_files::RunFiles;
 use crate::settings::RunSettings;
-use crate::teller::Teller;
-use crate::told_source::{Sums, ToldSource};
+use crate::step_source::{StepSource, Sums};
 use jiff::Timestamp;
 use rx_cli::VERSION;
 use rx_io::{Inputs, Outputs};
@@ -49,7 +49,7 @@ pub fn run<R: Threads + Wait + Sync>(
             logged?;
             Ok(lines)
         }
-        (Err(ending), Some(line)) if words.manner.tells_words => Err(ending.in_words(line)),
+        (Err(ending), Some(line)) if words.manner.explains_refusal => Err(ending.in_words(line)),
         (Err(ending), _) => Err(ending),
     }
 }
@@ -81,7 +81,7 @@ fn watched<R: Threads + Wait + Sync>(
     log: Node,
 ) -> WatchedRun {
     let start = time_now(rt);
-    let teller = Teller::new(rt, words);
+    let reporter = Reporter::new(rt, words);
     // Only the log has the codes.
     let codes = Cell::new(words.log.map(|_| CodesPassed::new(rt.alloc())));
     let Passed {
@@ -90,7 +90,7 @@ fn watched<R: Threads + Wait + Sync>(
         traffic,
         digests,
     } = match RunFiles::open(rt, words, log) {
-        Ok(files) => on_files(rt, threads, words, files, &teller, &codes),
+        Ok(files) => on_files(rt, threads, words, files, &reporter, &codes),
         Err(ending) => Passed::nothing(ending),
     };
     let fault = match (&done, fault) {
@@ -99,11 +99,11 @@ fn watched<R: Threads + Wait + Sync>(
         (_, fault) => fault,
     };
     let times = RunTimes {
-        begin: teller.begin(),
+        begin: reporter.begin(),
         end: rt.monotonic().ok(),
     };
     if done.is_ok() {
-        teller.tell_done(&traffic, times);
+        reporter.report_done(&traffic, times);
     }
     WatchedRun {
         done,
@@ -111,7 +111,7 @@ fn watched<R: Threads + Wait + Sync>(
         traffic,
         digests,
         codes: codes.into_inner(),
-        shards: teller.shards(),
+        shards: reporter.shards(),
         start,
         times,
     }
@@ -161,7 +161,7 @@ fn on_files<R: Threads + Wait + Sync>(
     threads: &R,
     words: &RunSettings<'_>,
     files: RunFiles,
-    teller: &Teller<'_>,
+    steps: &Reporter<'_>,
     codes: &CodesWritten,
 ) -> Passed {
     let alloc = rt.alloc();
@@ -170,9 +170,9 @@ fn on_files<R: Threads + Wait + Sync>(
     let RunFiles { inputs, outputs } = files;
     let read = ReadInputs::new(&inputs);
     let mut sources = Inputs {
-        sheet: ToldSource::new(rt, threads, &inputs.sheet, &last, Step::Sheet, teller, sums),
-        books: ToldSource::new(rt, threads, &inputs.books, &last, Step::Books, teller, sums),
-        batch: ToldSource::new(rt, threads, &inputs.batch, &last, Step::Batch, teller, sums),
+        sheet: StepSource::new(rt, threads, &inputs.sheet, &last, Step::Sheet, steps, sums),
+        books: StepSource::new(rt, threads, &inputs.books, &last, Step::Books, steps, sums),
+        batch: StepSource::new(rt, threads, &inputs.batch, &last, Step::Batch, steps, sums),
     };
     let files = outputs.files();
     let sums = sums.is_asked();
@@ -184,7 +184,7 @@ fn on_files<R: Threads + Wait + Sync>(
     let done = run_io(
         threads,
         alloc,
-        teller,
+        steps,
         words.stamp.as_bytes(),
         words.manner.workers,
         words.manner.plain,

@@ -1,5 +1,5 @@
 use rx_d0_values::{Body, Heard, Transmission};
-use rx_explain::Wanted;
+use rx_explain::Query;
 use rx_fields::{Authorization, Key, Lot, Memory, NUMBERS_OF_A_BATCH, Reference};
 use std::alloc::Global;
 
@@ -9,41 +9,41 @@ use std::alloc::Global;
 pub(crate) fn asked_in(
     alloc: Global,
     lot: Lot,
-    wanted: &Wanted,
+    query: &Query,
     transmissions: &[Transmission],
 ) -> Result<Vec<u64>, Memory> {
     let mut places = Vec::new(alloc);
-    let key = numbered_key(lot, wanted, transmissions);
+    let key = numbered_key(lot, query, transmissions);
     for (before, transmission) in transmissions.iter().enumerate() {
         let place = before as u64 + 1;
-        if is_asked(wanted, &key, place, transmission) {
+        if is_asked(query, &key, place, transmission) {
             places.push(place)?;
         }
     }
     Ok(places)
 }
 
-fn is_asked(wanted: &Wanted, key: &Option<Key>, place: u64, transmission: &Transmission) -> bool {
+fn is_asked(query: &Query, key: &Option<Key>, place: u64, transmission: &Transmission) -> bool {
     let Body::Heard(heard) = &transmission.body else {
         return false;
     };
-    match wanted {
-        Wanted::Place(one) => place == *one,
-        Wanted::One(at) => place == at.place,
-        Wanted::Number(_) => match key {
+    match query {
+        Query::Place(one) => place == *one,
+        Query::One(at) => place == at.place,
+        Query::Number(_) => match key {
             Some(key) => names(heard, key.reference) && heard.key(key.reference) == *key,
             None => false,
         },
-        Wanted::Reference(reference) => names(heard, *reference),
-        Wanted::ReferenceAt(reference, provider) => {
+        Query::Reference(reference) => names(heard, *reference),
+        Query::ReferenceAt(reference, provider) => {
             heard.provider == *provider && names(heard, *reference)
         }
     }
 }
 
 // The fill key of the transaction whose own authorization number is asked for.
-fn numbered_key(lot: Lot, wanted: &Wanted, transmissions: &[Transmission]) -> Option<Key> {
-    let Wanted::Number(number) = wanted else {
+fn numbered_key(lot: Lot, query: &Query, transmissions: &[Transmission]) -> Option<Key> {
+    let Query::Number(number) = query else {
         return None;
     };
     let (place, nth) = place_in(lot, *number)?;

@@ -115,7 +115,7 @@ fn a_seat_is_left_once(rt: HostRuntime) {
 }
 
 #[test]
-fn a_seat_past_all_others_is_put_behind_them(rt: HostRuntime) {
+fn a_seat_past_all_others_is_put_after_them(rt: HostRuntime) {
     let mut seats = seats_of(&rt, rt.alloc(), &[(1, 4, 10), (1, 300, 10)]);
     let last = seated(2, 0, 10);
     assert!(rt; seats.is_past(&last.place));

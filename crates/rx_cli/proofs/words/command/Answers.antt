@@ -1,4 +1,4 @@
-use Rattle.std.proofs.Common.{◌≡◌, map, subst, Option, List, Result, Ok, Err}
+use Rattle.std.proofs.Common.{map, subst, Option, List, Result, Ok, Err}
 use Rattle.std.specs.Prelude.{IfOk}
 use Rattle.std.proofs.lemmas.Result.{IfErr-weaker, err_from_is_err_and}
 use Rattle.clap.specs.Words.{Row, Text, found_of, rows_of}
@@ -14,8 +14,8 @@ holds_of (Err e) p = tt
 
 pub returns-in_err-matches-clause-words : goal.returns-in_err-matches-clause-words
 returns-in_err-matches-clause-words o c =
-    let told = err_from_is_err_and c.from_residual.result c.from_residual.ensures.1 in
-    rw told.1 (λ is taken. absurd (c.in_err-matches.ensures.words (subst IsWords told.2 is) taken))
+    let passed = err_from_is_err_and c.from_residual.result c.from_residual.ensures.1 in
+    rw passed.1 (λ is taken. absurd (c.in_err-matches.ensures.words (subst IsWords passed.2 is) taken))
 
 pub returns-in-Some-clause-ok : goal.returns-in-Some-clause-ok
 returns-in-Some-clause-ok o c =

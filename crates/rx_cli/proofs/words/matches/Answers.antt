@@ -9,9 +9,9 @@ pub returns-in_err-try_get_matches_from-clause-words : goal.returns-in_err-try_g
 returns-in_err-try_get_matches_from-clause-words o c =
     let words = map o.S.AsStr.text c.args.words.now in
     let line : app_of c.into_inner-line.result ≡ whole_line = ap app_of c.into_inner-line.ensures ∙ c.in_ok-line.ensures in
-    let told = err_from_is_err_and c.from_residual-in_err-try_get_matches_from.result
+    let passed = err_from_is_err_and c.from_residual-in_err-try_get_matches_from.result
     c.from_residual-in_err-try_get_matches_from.ensures.1 in
-    rw told.1 (λ is taken. told.2 is (c.in_err-try_get_matches_from.ensures.passes (ap (λ (a : App). takes a words) line ∙ taken)))
+    rw passed.1 (λ is taken. passed.2 is (c.in_err-try_get_matches_from.ensures.passes (ap (λ (a : App). takes a words) line ∙ taken)))
 
 pub returns-clause-subcommand : goal.returns-clause-subcommand
 returns-clause-subcommand o c =

@@ -1,11 +1,11 @@
 use Rattle.std.proofs.lemmas.Result.{err_from_is_err_and}
 use Rattle.rx_switch.specs.Planned.IsNotPlanned.{memory}
-use Rattle.rx_commands.proofs.Accounted.{told_counted}
+use Rattle.rx_commands.proofs.Accounted.{counted_by}
 use Rattle.rx_commands.proofs.report_forms.report.Goals as goal
 
 pub text_in_form-printed-requires-clause-counted : goal.text_in_form-printed-requires-clause-counted
 text_in_form-printed-requires-clause-counted g c =
-    told_counted c.in_ok-report.report c.in_ok-report.ensures.ready c.in_ok-report.ensures.reported.told
+    counted_by c.in_ok-report.report c.in_ok-report.ensures.ready c.in_ok-report.ensures.reported.contents
 
 pub returns-in_err-printed-clause-refused : goal.returns-in_err-printed-clause-refused
 returns-in_err-printed-clause-refused g c =

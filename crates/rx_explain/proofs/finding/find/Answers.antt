@@ -10,7 +10,7 @@ loop-before-preserved c =
     let in_ts : at < length c.args.transmissions.now = omega arith in
     let in_rs : at < length c.args.replies.now = omega arith in
     rw c.in_ok-put_record.ensures
-    (of_batch_next (found_at c.args.wanted.now) c.args.transmissions.now c.args.replies.now at c.index-transmissions-before.result
+    (of_batch_next (found_at c.args.query.now) c.args.transmissions.now c.args.replies.now at c.index-transmissions-before.result
     c.index-replies-before.result in_ts in_rs c.index-transmissions-before.is c.index-replies-before.is
     c.loop-before.found.items)
     ∙ c.loop-before.invariant

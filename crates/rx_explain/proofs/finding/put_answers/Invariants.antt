@@ -6,5 +6,5 @@ use Rattle.rx_explain.proofs.finding.put_answers.Given as goal
 
 abbrev pub invariant-loop-before : goal.invariant-loop-before
 invariant-loop-before l =
-    l.found.items ++ of_answers (found_at l.wanted) l.place l.heard (l.before + 1) (drop l.before l.answers)
-    ≡ l.fn.found.items ++ of_answers (found_at l.wanted) l.place l.heard 1 l.answers
+    l.found.items ++ of_answers (found_at l.query) l.place l.heard (l.before + 1) (drop l.before l.answers)
+    ≡ l.fn.found.items ++ of_answers (found_at l.query) l.place l.heard 1 l.answers

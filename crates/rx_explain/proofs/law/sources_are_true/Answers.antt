@@ -6,20 +6,20 @@ use Rattle.rx_explain.proofs.ShownRows.{before_in_order, shown_stands, taken_bac
 use Rattle.rx_explain.proofs.law.sources_are_true.Goals as goal
 
 pub returns-clause-paid_by : goal.returns-clause-paid_by
-returns-clause-paid_by c lot plan ts opening at s r is stands paid told_is =
-    paid_by lot plan ts opening at s r is stands paid told_is
+returns-clause-paid_by c lot plan ts opening at s r is stands paid traced_is =
+    paid_by lot plan ts opening at s r is stands paid traced_is
 
 pub returns-clause-opening : goal.returns-clause-opening
-returns-clause-opening c lot plan ts opening at s r is stands told_is =
-    from_opening lot plan ts opening at s r is stands told_is
+returns-clause-opening c lot plan ts opening at s r is stands traced_is =
+    from_opening lot plan ts opening at s r is stands traced_is
 
 pub returns-clause-taken_back : goal.returns-clause-taken_back
-returns-clause-taken_back c lot plan ts opening at s r is stands leaves back told_is =
-    taken_by lot plan ts opening at s r is stands leaves back told_is
+returns-clause-taken_back c lot plan ts opening at s r is stands leaves back traced_is =
+    taken_by lot plan ts opening at s r is stands leaves back traced_is
 
 pub returns-clause-still_stands : goal.returns-clause-still_stands
-returns-clause-still_stands c lot plan ts opening at s r is stands leaves told_is =
-    stands_on lot plan ts opening at s r is stands leaves told_is
+returns-clause-still_stands c lot plan ts opening at s r is stands leaves traced_is =
+    stands_on lot plan ts opening at s r is stands leaves traced_is
 
 pub returns-clause-taken_back_now : goal.returns-clause-taken_back_now
 returns-clause-taken_back_now c lot plan ts opening at s r stands takes =

@@ -1,4 +1,4 @@
-use Rattle.std.proofs.Common.{◌≡◌, ℕ, length}
+use Rattle.std.proofs.Common.{◌≡◌, length}
 use Rattle.rx_report_text.specs.Reasons.{without_front}
 use Rattle.rx_report_text.proofs.reasons.without_front.Given as goal
 

@@ -1,4 +1,4 @@
-use Rattle.std.proofs.Common.{◌≡◌, refl, sym, Err, IfErr, ap, ◌∙◌}
+use Rattle.std.proofs.Common.{◌≡◌, sym, Err, IfErr, ap, ◌∙◌}
 use Rattle.std.proofs.lemmas.Result.{IfErr-at_err, err_from_is_err_and}
 use Rattle.rx_wave.specs.Decoding.{transmissions_of}
 use Rattle.rx_switch.specs.Job.{books_bytes, given_read}

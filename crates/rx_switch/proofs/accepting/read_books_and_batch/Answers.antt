@@ -50,5 +50,5 @@ returns-clause-asked g c =
 pub returns-in_err-batch-clause-no_thread : goal.returns-in_err-batch-clause-no_thread
 returns-in_err-batch-clause-no_thread g c thread =
     let p = err_from_is_err_and c.from_residual-in_err-batch.result c.from_residual-in_err-batch.ensures.1 in
-    let told : IfErr c.from_residual-in_err-batch.result (λ f. f ≡ of_batch c.in_err-batch.field-0.0) = rw (p.1, p.2) refl in
-    no_batch_thread c.in_err-batch.field-0.0 (IfErr-at_err (λ f. f ≡ of_batch c.in_err-batch.field-0.0) thread told)
+    let faults : IfErr c.from_residual-in_err-batch.result (λ f. f ≡ of_batch c.in_err-batch.field-0.0) = rw (p.1, p.2) refl in
+    no_batch_thread c.in_err-batch.field-0.0 (IfErr-at_err (λ f. f ≡ of_batch c.in_err-batch.field-0.0) thread faults)

@@ -1,5 +1,5 @@
 -- The records are read at these doors, and the places of each number are its own.
-use Rattle.std.proofs.Common.{◌≡◌, ℕ, suc, ◌+◌, List, length, map, refl, sym, ap, subst, ◌∙◌, arith}
+use Rattle.std.proofs.Common.{◌≡◌, ℕ, List, length, map, sym, ap, ◌∙◌, arith}
 use Rattle.std.proofs.lemmas.List.{length-map}
 use Rattle.rx_batch.specs.declared.detail.Detail.{Detail}
 use Rattle.rx_d0_request.specs.Doors.{plan_named}

@@ -1,5 +1,5 @@
 -- The places of each plan are places of the batch, and its share follows those before it.
-use Rattle.std.proofs.Common.{◌≡◌, ◌<◌, List, [], ◌∷◌, ◌++◌, length, map, take, sym, ap, ◌∙◌, arith}
+use Rattle.std.proofs.Common.{◌<◌, List, [], ◌∷◌, ◌++◌, length, map, take, sym, ap, ◌∙◌, arith}
 use Rattle.std.proofs.lemmas.List.{map-append, take_more}
 use Rattle.rx_switch.specs.declared.open_plans.OpenPlan.{OpenPlan}
 use Rattle.rx_switch.specs.RouteParts.{Share, its_share, share_of}

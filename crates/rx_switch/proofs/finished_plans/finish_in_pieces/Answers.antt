@@ -1,9 +1,7 @@
 -- The share of each plan, in whatever pieces.
-use Rattle.std.proofs.Common.{List, Result, map, refl, sym, ap, subst, ◌∙◌}
+use Rattle.std.proofs.Common.{Result, map, ap, subst, ◌∙◌}
 use Rattle.std.specs.Prelude.{◌≡◌, IfOk}
 use Rattle.std.specs.List.{AllZip}
-use Rattle.std.proofs.Crossing.{crosses, frees}
-use denote.Param.Send.{sendable}
 use Rattle.rayon.proofs.ToStd.{slice-AllZip}
 use Rattle.rx_fields.specs.declared.memory.Memory.{Memory}
 use Rattle.rx_wave.proofs.Gathered.{AllZip-all_ok, IfOk-matched}

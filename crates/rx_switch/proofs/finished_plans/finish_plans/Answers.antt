@@ -1,10 +1,8 @@
 -- The plans' replies and those to the strays are those of the switch.
-use Rattle.std.proofs.Common.{◌≡◌, List, [], ◌∷◌, ◌++◌, length, map, sym, ap, ◌∙◌, arith}
+use Rattle.std.proofs.Common.{◌≡◌, List, [], ◌∷◌, length, map, ap, ◌∙◌, arith}
 use Rattle.std.proofs.lemmas.List.{length-map, map-append}
-use Rattle.rx_d0_values.specs.declared.reply.Reply.{Reply}
 use Rattle.rx_switch.specs.declared.finished_plans.PlanShare.{PlanShare}
 use Rattle.rx_switch.specs.RouteParts.{Share, its_output, its_replies, its_share, opened, output_texts, share_of}
-use Rattle.rx_switch.specs.Routed.{PlanOutput}
 use Rattle.rx_switch.proofs.Finished.{all_finished, are_places, are_rejected}
 use Rattle.rx_switch.proofs.Mapped.{mapped_twice}
 use Rattle.rx_switch.proofs.finished_plans.finish_plans.Goals as goal

@@ -1,4 +1,3 @@
-use Rattle.std.proofs.Common.{◌≡◌}
 use Rattle.rx_switch.specs.JoinParts.{response_texts}
 use Rattle.rx_switch.proofs.JoinFaults.{sheet_refused}
 use Rattle.rx_switch.proofs.join_doors.door_of.Goals as goal

@@ -1,5 +1,5 @@
 -- The door of the next plan, or what it is refused for.
-use Rattle.std.proofs.Common.{◌≡◌, ◌+◌, ◌<◌, ◌∷◌, [], List, arith, length, map, subst}
+use Rattle.std.proofs.Common.{◌<◌, ◌∷◌, [], List, arith, length, map, subst}
 use Rattle.std.proofs.lemmas.List.{length-append, take_all}
 use Rattle.std.proofs.lemmas.Result.{err_from_is_err_and}
 use Rattle.rx_switch.specs.declared.join_job.PlanResponse.{PlanResponse as PlanResponseValue}

@@ -1,5 +1,5 @@
 -- The plan's sheet, or the door of an earlier one.
-use Rattle.std.proofs.Common.{◌≡◌, length}
+use Rattle.std.proofs.Common.{length}
 use Rattle.std.proofs.lemmas.Result.{err_from_is_err_and}
 use Rattle.rx_switch.specs.JoinParts.{response_texts}
 use Rattle.rx_switch.specs.JoinRefused.IsNotJoined.{door}

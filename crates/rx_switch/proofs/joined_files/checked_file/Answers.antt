@@ -6,7 +6,7 @@ use Rattle.rx_response.specs.Response.{response_head}
 use Rattle.rx_show.specs.ResponseFile.{IsResponse}
 use Rattle.rx_switch.specs.JoinParts.{join_inputs, stamp_in}
 use Rattle.rx_switch.specs.JoinRefused.IsNotJoined.{other_detail, other_stamp}
-use Rattle.rx_switch.proofs.JoinFaults.{detail_differs, file_is, not_told}
+use Rattle.rx_switch.proofs.JoinFaults.{detail_differs, file_is, not_true}
 use Rattle.rx_switch.proofs.joined_files.checked_file.Goals as goal
 
 pub returns-in_err-file-clause-refused : goal.returns-in_err-file-clause-refused
@@ -21,7 +21,7 @@ returns-then-not-is_stamp-clause-refused c g plans t next is first =
     other_stamp c.args.number (join_inputs c.args.stamp plans asked) t (stamp_in own.head) own.details next
     (file_is t (response_head asked.head (stamp_in own.head)) own.details c.args.text.now is c.in_ok-file.ensures.read)
     first
-    (λ e. not_told c.is_stamp.result c.if-not-is_stamp.true c.is_stamp.ensures (c.stamp_in.ensures ∙ e))
+    (λ e. not_true c.is_stamp.result c.if-not-is_stamp.true c.is_stamp.ensures (c.stamp_in.ensures ∙ e))
 
 pub returns-in-Some-clause-refused : goal.returns-in-Some-clause-refused
 returns-in-Some-clause-refused c g plans t next is first =

@@ -1,9 +1,8 @@
 -- The header isn't the batch's, or the bytes aren't a response file.
-use Rattle.std.proofs.Common.{◌≡◌}
 use Rattle.std.proofs.lemmas.Result.{err_from_is_err_and}
 use Rattle.rx_switch.specs.JoinParts.{join_inputs}
 use Rattle.rx_switch.specs.JoinRefused.IsNotJoined.{other_batch}
-use Rattle.rx_switch.proofs.JoinFaults.{file_is, not_told, other_head}
+use Rattle.rx_switch.proofs.JoinFaults.{file_is, not_true, other_head}
 use Rattle.rx_switch.proofs.joined_files.file_of.Goals as goal
 
 pub returns-in_err-file-clause-refused : goal.returns-in_err-file-clause-refused
@@ -17,4 +16,4 @@ returns-else-is_sent_back-clause-refused c g any plans t next is =
     other_batch c.args.number (join_inputs any plans c.args.batch.now) t own.head own.details next
     (file_is t own.head own.details c.args.text.now is c.in_ok-file.ensures.read)
     (other_head c.args.batch.now.head own.head
-    (not_told c.is_sent_back.result c.if-is_sent_back.false c.is_sent_back.ensures))
+    (not_true c.is_sent_back.result c.if-is_sent_back.false c.is_sent_back.ensures))

@@ -1,4 +1,4 @@
-use Rattle.std.proofs.Common.{◌≡◌, sym}
+use Rattle.std.proofs.Common.{sym}
 use Rattle.rx_batch.specs.Reading.{HasFault}
 use Rattle.rx_show.specs.ResponseFile.{as_batch}
 use Rattle.rx_switch.specs.declared.join_fault.JoinFault.TheVariants as fault

@@ -1,5 +1,5 @@
 -- The plan's records, in its response file.
-use Rattle.std.proofs.Common.{◌≡◌, ap, arith, length, refl}
+use Rattle.std.proofs.Common.{ap, arith, length, refl}
 use Rattle.std.proofs.lemmas.Result.{err_from_is_err_and}
 use Rattle.rx_switch.specs.JoinParts.{join_inputs, response_texts}
 use Rattle.rx_switch.proofs.Finished.{are_places, long_asked}

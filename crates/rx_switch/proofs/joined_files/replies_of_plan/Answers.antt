@@ -1,5 +1,4 @@
 -- The reply to the next record, or that none is there.
-use Rattle.std.proofs.Common.{◌≡◌}
 use Rattle.std.proofs.lemmas.Result.{err_from_is_err_and}
 use Rattle.rx_switch.specs.JoinParts.{IsPicked}
 use Rattle.rx_switch.specs.JoinRefused.IsNotJoined.{memory}

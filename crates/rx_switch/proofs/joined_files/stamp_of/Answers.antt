@@ -1,5 +1,4 @@
 -- The first plan's response file.
-use Rattle.std.proofs.Common.{◌≡◌}
 use Rattle.std.proofs.lemmas.Result.{err_from_is_err_and}
 use Rattle.rx_switch.proofs.joined_files.stamp_of.Goals as goal
 

@@ -1,5 +1,5 @@
 -- The doors, the batch and the stamp are those of a join.
-use Rattle.std.proofs.Common.{◌≡◌, ◌≤◌, ◌<◌, ◌∙◌, arith, length, map, refl, sym}
+use Rattle.std.proofs.Common.{◌≤◌, ◌<◌, ◌∙◌, arith, length, map, refl, sym}
 use Rattle.std.proofs.lemmas.List.{length-map}
 use Rattle.std.proofs.lemmas.Result.{err_from_is_err_and}
 use Rattle.rx_switch.specs.JoinParts.{given_join, response_texts, stamp_in}

@@ -1,4 +1,4 @@
-use Rattle.std.proofs.Common.{◌≡◌, sym}
+use Rattle.std.proofs.Common.{sym}
 use Rattle.rx_switch.proofs.PlanRefusals.{plan_books_refused}
 use Rattle.rx_switch.proofs.open_plans.books_of.Goals as goal
 

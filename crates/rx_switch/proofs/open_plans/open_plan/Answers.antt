@@ -1,5 +1,5 @@
 -- The plan's sheet, the door of an earlier one, or its books.
-use Rattle.std.proofs.Common.{◌≡◌, length, map, refl, sym, ap, ◌∙◌}
+use Rattle.std.proofs.Common.{length, map, refl}
 use Rattle.std.proofs.lemmas.Result.{err_from_is_err_and}
 use Rattle.rx_switch.specs.RouteParts.{opened, plan_texts}
 use Rattle.rx_switch.specs.RouteRefused.IsNotRouted.{door}

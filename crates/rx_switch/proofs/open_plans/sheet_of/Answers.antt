@@ -1,5 +1,4 @@
-use Rattle.std.proofs.Common.{◌≡◌, Err, subst, sym}
-use Rattle.rx_sheet.specs.SheetText.{sheet_of_text}
+use Rattle.std.proofs.Common.{sym}
 use Rattle.rx_switch.proofs.PlanRefusals.{plan_sheet_refused}
 use Rattle.rx_switch.proofs.open_plans.sheet_of.Goals as goal
 

@@ -1,5 +1,5 @@
 -- One plan more, whose door none of the earlier ones has.
-use Rattle.std.proofs.Common.{◌≡◌, ◌+◌, ◌<◌, length, take, arith}
+use Rattle.std.proofs.Common.{◌<◌, length, arith}
 use Rattle.rx_switch.proofs.Beside.{apart_next}
 use Rattle.rx_switch.proofs.plans_beside.are_apart.Goals as goal
 

@@ -1,8 +1,8 @@
 -- The plans stand for their texts, whatever their numbers were when they were read.
-use Rattle.std.proofs.Common.{◌≡◌, List, ap, map, subst, sym}
+use Rattle.std.proofs.Common.{List, map, subst, sym}
 use Rattle.std.specs.List.{AllZip}
 use Rattle.rx_switch.specs.RouteParts.{opened, plan_texts}
-use Rattle.rx_switch.specs.Routed.{OnePlan, PlanStandsFor, are_apart, doors_of}
+use Rattle.rx_switch.specs.Routed.{OnePlan, PlanStandsFor, are_apart}
 use Rattle.rx_switch.proofs.Beside.{each_made}
 use Rattle.rx_switch.proofs.plans_beside.open_beside.Goals as goal
 

@@ -14,9 +14,9 @@ returns-in_err-accepted-clause-refused g c =
 pub returns-in_err-accepted-clause-thread : goal.returns-in_err-accepted-clause-thread
 returns-in_err-accepted-clause-thread g c =
     let p = err_from_is_err_and c.from_residual.result c.from_residual.ensures.1 in
-    let told : IfErr c.from_residual.result (λ f. f ≡ fault.Thread → ⊥) =
+    let faults : IfErr c.from_residual.result (λ f. f ≡ fault.Thread → ⊥) =
     rw (p.1, p.2) (λ e. c.in_err-accepted.ensures.no_thread (ap Err e)) in
-    λ thread. absurd (IfErr-at_err (λ f. f ≡ fault.Thread → ⊥) thread told refl)
+    λ thread. absurd (IfErr-at_err (λ f. f ≡ fault.Thread → ⊥) thread faults refl)
 
 pub adjudicate-requires-clause-few : goal.adjudicate-requires-clause-few
 adjudicate-requires-clause-few g c κs within = (c.in_ok-accepted.ensures.accepted c.args.job.now.batch.now refl).batch.few

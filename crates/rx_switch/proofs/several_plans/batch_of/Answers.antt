@@ -1,4 +1,4 @@
-use Rattle.std.proofs.Common.{◌≡◌, sym}
+use Rattle.std.proofs.Common.{sym}
 use Rattle.rx_switch.proofs.PlanRefusals.{switch_batch_refused}
 use Rattle.rx_switch.proofs.several_plans.batch_of.Goals as goal
 

@@ -1,4 +1,3 @@
-use Rattle.std.proofs.Common.{◌≡◌, Err, refl}
 use Rattle.std.proofs.lemmas.Result.{err_from_is_err_and}
 use Rattle.rx_switch.specs.RouteParts.{switched_of}
 use Rattle.rx_switch.specs.RouteRefused.IsNotRouted.{memory}

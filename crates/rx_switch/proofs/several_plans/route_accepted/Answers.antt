@@ -1,13 +1,12 @@
 -- The response file and the settlement are those of the replies.
-use Rattle.std.proofs.Common.{◌≡◌, List, length, map, sym, ap, ◌∙◌, subst, arith}
+use Rattle.std.proofs.Common.{length, ap, ◌∙◌, arith}
 use Rattle.std.specs.List.{range_with_len}
 use Rattle.std.proofs.lemmas.List.{length-map}
 use Rattle.std.proofs.lemmas.List.FromFn.{length-range_with_len}
 use Rattle.rx_response.specs.Response.{response_text}
 use Rattle.rx_settle.specs.Settlement.{settlement_text}
-use Rattle.rx_switch.specs.declared.open_plans.OpenPlan.{OpenPlan}
-use Rattle.rx_switch.specs.RouteParts.{opened, switched_by, switched_of}
-use Rattle.rx_switch.specs.Routed.{plan_output, routed_replies, routed_reply}
+use Rattle.rx_switch.specs.RouteParts.{switched_of}
+use Rattle.rx_switch.specs.Routed.{routed_reply}
 use Rattle.rx_switch.proofs.several_plans.route_accepted.Goals as goal
 
 pub route_records-routed-requires-clause-apart : goal.route_records-routed-requires-clause-apart

@@ -1,11 +1,11 @@
 -- The lists of the plans and the strays, in file order, are the replies of the switch.
-use Rattle.std.proofs.Common.{◌≡◌, ℕ, List, length, map, refl, sym, ap, subst, ◌∙◌, arith}
+use Rattle.std.proofs.Common.{ℕ, List, length, map, refl, sym, ap, subst, ◌∙◌, arith}
 use Rattle.std.specs.List.{range_with_len}
 use Rattle.std.proofs.lemmas.List.{length-map}
 use Rattle.rx_batch.specs.declared.detail.Detail.{Detail}
 use Rattle.rx_d0_request.specs.Doors.{plan_named}
 use Rattle.rx_wave.specs.Jobs.{AreReplies}
-use Rattle.rx_switch.specs.RouteParts.{numbers_of, switched_by}
+use Rattle.rx_switch.specs.RouteParts.{switched_by}
 use Rattle.rx_switch.specs.Routed.{doors_of, routed_reply}
 use Rattle.rx_switch.proofs.Finished.{long_asked}
 use Rattle.rx_switch.proofs.several_plans.route_records.Goals as goal

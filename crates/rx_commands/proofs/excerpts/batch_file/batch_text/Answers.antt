@@ -1,5 +1,5 @@
 -- The details are few, and none has an STX or an ETX.
-use Rattle.std.proofs.Common.{◌≡◌, ◌≤◌, ◌+◌, ◌-◌, ◌∷◌, [], ◌∙◌, List, ap, arith, length, length-append, replicate, subst, sym}
+use Rattle.std.proofs.Common.{◌≡◌, ◌+◌, ◌-◌, ◌∷◌, [], ◌∙◌, List, ap, arith, length, length-append, replicate, subst, sym}
 use Rattle.std.specs.Prelude.{IfOk}
 use Rattle.std.proofs.lemmas.List.{length-replicate}
 use Rattle.rx_batch.specs.Grammar.{IsFile}

@@ -1,6 +1,4 @@
 -- The text is read as the plan's figures with the drugs that the record bills.
-use Rattle.std.proofs.Common.{◌≡◌, ◌∙◌, refl}
-use Rattle.std.proofs.lemmas.Result.{err_from_is_err_and}
 use Rattle.rx_commands.proofs.excerpts.sheet_file.sheet_text.Goals as goal
 
 pub returns-then-is_text-clause-text : goal.returns-then-is_text-clause-text

@@ -68,12 +68,12 @@ loop-before-preserved c =
     let xs = c.loop-before.facts.items in
     let x = c.in_ok-explain_next.field-0 in
     let so = c.loop-before.invariant in
-    let told = c.in_ok-explain_next.ensures in
+    let step = c.in_ok-explain_next.ensures in
     let a = asked lot plan place h (at + 1) in
     let answer_in : Facts → Answer = λ y. y.answer in
     let within : at < length list = omega arith in
-    let answered : x.answer ≡ answer a now t = told.facts.answer_is in
-    let changed : next ≡ after a now t x.answer = told.after ∙ ap (after a now t) (sym answered) in
+    let answered : x.answer ≡ answer a now t = step.facts.answer_is in
+    let changed : next ≡ after a now t x.answer = step.after ∙ ap (after a now t) (sym answered) in
     let pushed : c.push.new.self.items ≡ xs ++ x ∷ [] = c.in_ok-push.ensures.items in
     let to_come = answers_from lot plan place h (at + 1 + 1) (drop (at + 1) list) next in
     let before_it : now ≡ ledger_from lot plan place h 1 (take (at + 1 - 1) h.list) first =
@@ -81,7 +81,7 @@ loop-before-preserved c =
     ∙ ap (λ (n : ℕ). ledger_from lot plan place h 1 (take n h.list) first) (let e : at ≡ at + 1 - 1 = omega arith in e) in
     let here : IsOf lot plan place h first (at + 1) (Some t) (Some x) =
     subst (λ (L : Ledger). AreFacts lot plan L (record { place = place; nth = at + 1 })
-    (record { heard = h; transaction = t }) x) before_it told.facts in
+    (record { heard = h; transaction = t }) x) before_it step.facts in
     record {
       count = ap length pushed ∙ length-append xs (x ∷ []) ∙ ap (λ n. n + 1) so.count;
       answers = ap (λ (ys : List Facts). map answer_in ys ++ to_come) pushed
@@ -91,8 +91,8 @@ loop-before-preserved c =
           ∙ so.answers;
       ledger = ledger_next lot plan place h list at t now next x.answer within c.index-list-before.is answered changed
           ∙ so.ledger;
-      so_far = ledger_up_to lot plan place h list at t first now next within c.index-list-before.is so.so_far told.after;
-      scope = told.scope ∙ so.scope;
+      so_far = ledger_up_to lot plan place h list at t first now next within c.index-list-before.is so.so_far step.after;
+      scope = step.scope ∙ so.scope;
       explained = λ nth le.
           subst (λ (ys : List Facts). IsOf lot plan place h first nth (item list nth) (item ys nth)) (sym pushed)
           (explained_next lot plan place h first list xs at t x within c.index-list-before.is so.count so.explained here

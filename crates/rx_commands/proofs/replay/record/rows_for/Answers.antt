@@ -15,11 +15,11 @@ pub returns-in-Bill : goal.returns-in-Bill
 returns-in-Bill c =
     let L = c.args.order.now.books.ledger in
     let b = c.in-Bill.bill in
-    let told : IfOk c.rows_of.result (λ rows. HasRows L rows.items (Bill b)) =
+    let rows_are : IfOk c.rows_of.result (λ rows. HasRows L rows.items (Bill b)) =
     IfOk-weaker c.rows_of.result (λ rows. rows.items ≡ rows_of L c.parts.result.now.family)
     (λ rows. HasRows L rows.items (Bill b))
     (λ rows e.
     ap (filter (claimed_by b.family)) (e ∙ ap (λ (p : BillParts). rows_of L p.family) c.parts.ensures)
     ∙ filter_again (claimed_by b.family) L.rows)
     c.rows_of.ensures in
-    subst (λ (t : Transaction). IfOk c.rows_of.result (λ rows. HasRows L rows.items t)) (sym c.in-Bill.is) told
+    subst (λ (t : Transaction). IfOk c.rows_of.result (λ rows. HasRows L rows.items t)) (sym c.in-Bill.is) rows_are

@@ -13,5 +13,5 @@ loop-line-preserved c =
     let after : take (c.loop-line.line-index + 1) c.args.lines.now ≡ before ++ line ∷ [] =
     take_more c.args.lines.now c.loop-line.line-index line c.loop-line-test.true
     ∙ ap (λ l. before ++ l ∷ []) (sym c.line-item.is) in
-    c.in_ok-put_behind.ensures ∙ (λ j. added (c.known_or_blank-provider.ensures j) line (c.loop-line.invariant j))
+    c.in_ok-put_after.ensures ∙ (λ j. added (c.known_or_blank-provider.ensures j) line (c.loop-line.invariant j))
     ∙ added-grouped before line ∙ ap grouped (sym after)

@@ -21,10 +21,10 @@ const LOOKED_AT: u64 = 64;
 
 /// What reports a run, where that is asked for: its steps, and how many of its records are adjudicated.
 #[derive(Drop)]
-pub struct Teller<'a> {
+pub struct Reporter<'a> {
     rt: &'a HostRuntime,
     is_asked: bool,
-    tells_end: bool,
+    reports_end: bool,
     at_desk: bool,
     begin: Option<Duration>,
     // The details of the batch file.
@@ -32,25 +32,25 @@ pub struct Teller<'a> {
     // How many of them are adjudicated.
     adjudicated: AtomicU64,
     // When progress was reported last, in milliseconds from the begin.
-    told: AtomicU64,
+    last_report: AtomicU64,
     // How many shards the batch was dealt out in, 0 where it wasn't, and the transactions of the largest and of all.
     shards: AtomicU64,
     largest: AtomicU64,
     transactions: AtomicU64,
 }
 
-impl<'a> Teller<'a> {
+impl<'a> Reporter<'a> {
     /// Of a run that begins now.
-    pub fn new(rt: &'a HostRuntime, words: &RunSettings<'_>) -> Teller<'a> {
-        Teller {
+    pub fn new(rt: &'a HostRuntime, words: &RunSettings<'_>) -> Reporter<'a> {
+        Reporter {
             rt,
             is_asked: words.manner.verbose,
-            tells_end: words.manner.tells_end,
+            reports_end: words.manner.reports_end,
             at_desk: words.manner.desk,
             begin: rt.monotonic().ok(),
             records: AtomicU64::new(0),
             adjudicated: AtomicU64::new(0),
-            told: AtomicU64::new(0),
+            last_report: AtomicU64::new(0),
             shards: AtomicU64::new(0),
             largest: AtomicU64::new(0),
             transactions: AtomicU64::new(0),
@@ -75,50 +75,50 @@ impl<'a> Teller<'a> {
     }
 
     /// Reports the step of an input that was read to its end.
-    pub fn tell_input(&self, step: Step, input: &Traffic) {
+    pub fn report_input(&self, step: Step, input: &Traffic) {
         if step == Step::Batch {
             self.records.store(details_in(input), Ordering::SeqCst);
         }
-        self.tell(step_line(self.rt.alloc(), &input_report(step, input)));
+        self.report_line(step_line(self.rt.alloc(), &input_report(step, input)));
     }
 
     /// Reports the later steps of a run that is done, and its end.
-    pub fn tell_done(&self, traffic: &RunTraffic, times: RunTimes) {
+    pub fn report_done(&self, traffic: &RunTraffic, times: RunTimes) {
         for report in &traffic.later_reports(times) {
-            self.tell(step_line(self.rt.alloc(), report));
+            self.report_line(step_line(self.rt.alloc(), report));
         }
         let run = RunReport {
             totals: Totals::of_settlement(traffic.outputs.settlement.end()),
             peak: peak(self.rt).and_then(|kilobytes| kilobytes.checked_mul(1_024)),
             micros: micros_between(times.begin, times.end),
         };
-        if self.tells_end {
+        if self.reports_end {
             self.write(done_line(self.rt.alloc(), &run));
         }
     }
 
     // Reports how many records are adjudicated, where it is time for that.
-    fn tell_progress(&self, adjudicated: u64) {
+    fn report_progress(&self, adjudicated: u64) {
         let Some(micros) = micros_between(self.begin, self.rt.monotonic().ok()) else {
             return;
         };
         let now = micros / 1_000;
-        let told = self.told.load(Ordering::SeqCst);
-        if now < FIRST || now.saturating_sub(told) < BETWEEN {
+        let last_report = self.last_report.load(Ordering::SeqCst);
+        if now < FIRST || now.saturating_sub(last_report) < BETWEEN {
             return;
         }
         let is_ours = self
-            .told
-            .compare_exchange(told, now, Ordering::SeqCst, Ordering::SeqCst)
+            .last_report
+            .compare_exchange(last_report, now, Ordering::SeqCst, Ordering::SeqCst)
             .is_ok();
         if is_ours {
             let records = self.records.load(Ordering::SeqCst);
-            self.tell(progress_line(self.rt.alloc(), adjudicated, records));
+            self.report_line(progress_line(self.rt.alloc(), adjudicated, records));
         }
     }
 
     // Writes a line to standard error, where the steps are to be reported.
-    fn tell(&self, line: Result<Vec<u8>, AllocError>) {
+    fn report_line(&self, line: Result<Vec<u8>, AllocError>) {
         if self.is_asked {
             self.write(line);
         }
@@ -133,7 +133,7 @@ impl<'a> Teller<'a> {
 }
 
 /// It starts every worker, and counts the records that leave.
-impl Gate for Teller<'_> {
+impl Gate for Reporter<'_> {
     ghost use Rattle.std.specs.Prelude.{true};
 
     ghost starts = { λ _ _. true };
@@ -149,7 +149,7 @@ impl Gate for Teller<'_> {
             let before = self.adjudicated.fetch_add(1, Ordering::SeqCst);
             let adjudicated = before.saturating_add(1);
             if adjudicated % LOOKED_AT == 0 {
-                self.tell_progress(adjudicated);
+                self.report_progress(adjudicated);
             }
         }
     }
@@ -159,7 +159,7 @@ impl Gate for Teller<'_> {
         self.largest.store(deal.largest, Ordering::SeqCst);
         self.transactions.store(deal.transactions, Ordering::SeqCst);
         if let Some(shards) = self.shards() {
-            self.tell(shards_line(self.rt.alloc(), &shards));
+            self.report_line(shards_line(self.rt.alloc(), &shards));
         }
     }
 

@@ -1,7 +1,7 @@
 use Rattle.std.proofs.Common.{◌≡◌, ◌++◌, map}
 use Rattle.rx_report.specs.Accounts.{parts_of, with_tally}
 use Rattle.rx_report.specs.Adding.{groups_in}
-use Rattle.rx_report.proofs.accounting.each_told.Given as goal
+use Rattle.rx_report.proofs.accounting.sections_of.Given as goal
 
 -- the sections so far, and those of the groups that are left
 abbrev pub invariant-loop-provider : goal.invariant-loop-provider

@@ -9,7 +9,7 @@ use Rattle.rx_explain.specs.Traces.{events_of}
 use Rattle.rx_explain.specs.declared.at.At.{At}
 use Rattle.rx_explain.specs.declared.events.Event.{Event}
 use Rattle.rx_ledger.specs.Fold.{fold_replies}
-use Rattle.rx_commands.proofs.retraced.explain_wanted.Goals as goal
+use Rattle.rx_commands.proofs.retraced.explain_query.Goals as goal
 
 pub returns : goal.returns
 returns c =
@@ -18,13 +18,13 @@ returns c =
     let asked = c.args.batch.now.asked.now in
     let opening = c.args.batch.now.opening.now.ledger in
     let replies = c.args.replayed.now.replies.items in
-    let wanted = found_in c.args.wanted.now 1 asked replies in
-    let found : c.deref-4.result.now ≡ wanted =
-    c.deref-4.ensures.value ∙ c.in_ok-found.ensures ∙ ap (found_in c.args.wanted.now 1 asked) c.deref.ensures.value in
+    let places = found_in c.args.query.now 1 asked replies in
+    let found : c.deref-4.result.now ≡ places =
+    c.deref-4.ensures.value ∙ c.in_ok-found.ensures ∙ ap (found_in c.args.query.now 1 asked) c.deref.ensures.value in
     let changed : c.in_ok-events.events ≡ events_of 1 asked (fold_replies lot plan 1 asked opening) =
     c.in_ok-events.ensures ∙ ap (events_of 1 asked) (c.deref-2.ensures.value ∙ c.requires.replies) in
     subst (λ (events : List Event). IfOk c.explain_found.result
-    (λ all. AllZip (λ at. IsAmong lot plan asked opening events at (spot_at asked at)) wanted all.items))
+    (λ all. AllZip (λ at. IsAmong lot plan asked opening events at (spot_at asked at)) places all.items))
     changed
     (subst (λ (ats : List At). IfOk c.explain_found.result
     (λ all. AllZip (λ at. IsAmong lot plan asked opening c.in_ok-events.events at (spot_at asked at)) ats all.items))

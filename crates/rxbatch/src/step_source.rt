@@ -2,7 +2,7 @@
 ghost use Rattle.std.specs.Prelude.{◌≡◌, false};
 
 use crate::noted_file::{LastError, NotedFile, noted_input};
-use crate::teller::Teller;
+use crate::reporter::Reporter;
 use rx_io::{Failed, ReaderSource, Source};
 use rx_run_log::{Step, Summing, Traffic, Watched};
 use std::fs::File;
@@ -31,16 +31,16 @@ impl Sums {
 
 /// An input of a run, whose step is reported when its end is read.
 #[derive(Drop)]
-pub struct ToldSource<'a, R> {
+pub struct StepSource<'a, R> {
     source: Watched<'a, ReaderSource<NotedFile<'a>>, HostRuntime>,
     threads: &'a R,
     step: Step,
-    teller: &'a Teller<'a>,
+    reporter: &'a Reporter<'a>,
     // The sum that a thread makes.
     summing: Option<Summing>,
 }
 
-impl<'a, R: Threads> ToldSource<'a, R> {
+impl<'a, R: Threads> StepSource<'a, R> {
     /// The file, of which nothing was read, with the place where the system's answer is noted.
     pub fn new(
         rt: &'a HostRuntime,
@@ -48,10 +48,10 @@ impl<'a, R: Threads> ToldSource<'a, R> {
         file: &'a File,
         last: &'a LastError,
         step: Step,
-        teller: &'a Teller<'a>,
+        reporter: &'a Reporter<'a>,
         sums: Sums,
-    ) -> ToldSource<'a, R>
-        ensures { ⟦<ToldSource<'a, R> as Source>⟧.failed result ≡ false }
+    ) -> StepSource<'a, R>
+        ensures { ⟦<StepSource<'a, R> as Source>⟧.failed result ≡ false }
     {
         let input = noted_input(file, last);
         let source = match sums {
@@ -62,18 +62,18 @@ impl<'a, R: Threads> ToldSource<'a, R> {
                 Watched::keeping(rt.alloc(), input, rt, room)
             }
         };
-        ToldSource {
+        StepSource {
             source,
             threads,
             step,
-            teller,
+            reporter,
             summing: None,
         }
     }
 
     /// What passed, and its sum, where a thread makes it; the device is dropped.
     pub fn into_traffic(self) -> (Traffic, Option<Summing>) {
-        let ToldSource {
+        let StepSource {
             source,
             summing,
             ..
@@ -82,7 +82,7 @@ impl<'a, R: Threads> ToldSource<'a, R> {
     }
 }
 
-impl<'a, R: Threads> Source for ToldSource<'a, R> {
+impl<'a, R: Threads> Source for StepSource<'a, R> {
     ghost left = { λ s. ⟦<Watched<'a, ReaderSource<NotedFile<'a>>, HostRuntime> as Source>⟧.left s.source };
 
     ghost failed = { λ s. ⟦<Watched<'a, ReaderSource<NotedFile<'a>>, HostRuntime> as Source>⟧.failed s.source };
@@ -98,7 +98,7 @@ impl<'a, R: Threads> Source for ToldSource<'a, R> {
     fn read(&mut self, buffer: &mut [u8]) -> Result<usize, Failed> {
         let count = self.source.read(buffer)?;
         if count == 0 {
-            self.teller.tell_input(self.step, self.source.traffic());
+            self.reporter.report_input(self.step, self.source.traffic());
             if self.source.traffic().bytes() >= FEWEST_APART {
                 if let Some(text) = self.source.take_kept() {
                     self.summing = Some(Summing::begin(self.threads, text));

@@ -1,7 +1,7 @@
 use Rattle.std.proofs.Common.{eqb, rules}
 use Rattle.std.proofs.lemmas.Iterator.Consumers.{nth_from_yields_List}
 use Rattle.std.proofs.lemmas.Iterator.Splits.{YieldsList-from_slice_split}
-use Rattle.rx_diagnostics.proofs.quoting.piece_behind.Goals as goal
+use Rattle.rx_diagnostics.proofs.quoting.piece_after.Goals as goal
 
 -- the pieces that the iterator gives are those of the text
 pub returns : goal.returns

@@ -1,6 +1,6 @@
 use Rattle.rx_explain.proofs.Unnamed.{unnamed}
 use Rattle.rx_explain_text.proofs.SameSaid.{same_object, same_words}
-use Rattle.rx_explain_text.proofs.laws.others_stay_untold.Goals as goal
+use Rattle.rx_explain_text.proofs.laws.others_stay_hidden.Goals as goal
 
 pub returns-clause-words : goal.returns-clause-words
 returns-clause-words c x y u v alike seen too listing lot figures request tier compared =

@@ -1,7 +1,7 @@
 use Rattle.std.proofs.Common.{◌∷◌, [], ◌++◌, sym, ap, ◌∙◌}
 use Rattle.rx_report.specs.Adding.{groups_in}
 use Rattle.rx_report.proofs.Putting.{first, put_back}
-use Rattle.rx_report.proofs.groups.put_behind.Goals as goal
+use Rattle.rx_report.proofs.groups.put_after.Goals as goal
 
 -- the items of the provider are put back with one more
 pub returns-in_ok-push-in-Some : goal.returns-in_ok-push-in-Some
