@@ -40,8 +40,8 @@ all-edits: kit cc
 
 cases: kit cc
 	python3 tools/check_docs.py
-	python3 tools/find_doubles.py --allowed 39
-	python3 tools/count_dialect.py --allowed 1
+	python3 tools/find_doubles.py --allowed 37
+	python3 tools/count_dialect.py --allowed 0
 	test -x $(PROGRAM) || (cd crates/rxbatch && rt run -- sample)
 	python3 packaging/make_pages.py $(PROGRAM) --check
 	python3 tests/run_packaging.py $(PROGRAM) --shells
