@@ -3,6 +3,7 @@ pub mod CodesPassed
 pub mod Header
 pub mod Lines
 pub mod Log
+pub mod Members
 pub mod Numbers
 pub mod RunTraffic
 pub mod Settlement

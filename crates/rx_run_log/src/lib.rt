@@ -28,6 +28,7 @@ mod law;
 mod lines;
 mod log;
 mod marks;
+mod members;
 mod numbers;
 mod report;
 mod run_traffic;
