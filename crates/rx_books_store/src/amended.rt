@@ -14,11 +14,21 @@ use std::marker::Model;
 
 /// Books with places that stand instead of what the opened ones hold: what a shelf leaves where a family's book was given
 /// with other members than the opening's. No run makes such books, so what may take memory makes plain ones of them.
-#[derive(Drop)]
 pub(crate) struct AmendedBooks {
     books: OpenBooks,
     keys: Hinted<KeyPlace>,
     families: Hinted<FamilyPlace>,
+}
+
+// Written out, so that freeing one is one call wherever a function ends early, not one for each of its fields.
+impl Drop for AmendedBooks {
+    fn drop(self) {
+        let AmendedBooks {
+            books: _,
+            keys: _,
+            families: _,
+        } = self;
+    }
 }
 
 impl Model for AmendedBooks {

@@ -28,7 +28,6 @@ use std::marker::Model;
 /// Books that are open for a batch: a slot is kept for each fill key that it can touch, and a row is written into its
 /// slot, or taken out of it, without memory. Contracts see the books, and the fill keys that have a slot. Members,
 /// families and slots are known by their places, which stay while the books are open.
-#[derive(Drop)]
 pub struct OpenBooks {
     pub(crate) period: Period,
     pub(crate) opening: Opening,
@@ -38,6 +37,20 @@ pub struct OpenBooks {
     pub(crate) deductibles: Vec<u128>,
     pub(crate) out_of_pockets: Vec<u128>,
     pub(crate) family_deductibles: Vec<u128>,
+}
+
+// Written out, so that freeing one is one call wherever a function ends early, not one for each of its fields.
+impl Drop for OpenBooks {
+    fn drop(self) {
+        let OpenBooks {
+            period: _,
+            opening: _,
+            changed: _,
+            deductibles: _,
+            out_of_pockets: _,
+            family_deductibles: _,
+        } = self;
+    }
 }
 
 impl Model for OpenBooks {
@@ -283,28 +296,14 @@ impl OpenBooks {
     }
 
     /// The same books, with a slot for each of these fill keys too.
-    pub(crate) fn opened(self, alloc: Global, keys: &[Key]) -> Result<OpenBooks, Memory>
+    pub(crate) fn opened(mut self, alloc: Global, keys: &[Key]) -> Result<OpenBooks, Memory>
         requires { IsAscending key_cmp (λ key. key) keys.now }
         ensures same { IfOk result (λ opened. opened.books ≡ self.books) }
         ensures slots { IfOk result (λ opened. All (Contains opened.slots) keys.now) }
     {
-        let OpenBooks {
-            period,
-            opening,
-            changed,
-            deductibles,
-            out_of_pockets,
-            family_deductibles,
-        } = self;
-        let fresh = fresh_slots(alloc, &opening, keys)?;
-        let changed = merged(alloc, fresh, changed.as_slice())?;
-        Ok(OpenBooks {
-            period,
-            opening,
-            changed,
-            deductibles,
-            out_of_pockets,
-            family_deductibles,
-        })
+        let fresh = fresh_slots(alloc, &self.opening, keys)?;
+        let changed = merged(alloc, fresh, self.changed.as_slice())?;
+        self.changed = changed;
+        Ok(self)
     }
 }

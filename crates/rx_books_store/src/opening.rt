@@ -67,11 +67,17 @@ impl Model for Lists {
 }
 
 /// What books were made from. It never changes, and copies share it. Contracts see the ledger.
-#[derive(Drop)]
 pub(crate) struct Opening {
     lists: Arc<Lists, Global>,
     // The text that they were read from, if it is one of version 3 and was given to be kept.
     kept: Option<Arc<Kept, Global>>,
+}
+
+// Written out, so that freeing one is one call wherever a function ends early, not one for each of its fields.
+impl Drop for Opening {
+    fn drop(self) {
+        let Opening { lists: _, kept: _ } = self;
+    }
 }
 
 impl Model for Opening {
@@ -142,16 +148,12 @@ impl Opening {
         Ok(Opening { lists, kept })
     }
 
-    /// The same lists, with the text that they were read from.
-    pub(crate) fn keeping(self, kept: Arc<Kept, Global>) -> Opening
-        requires { IsKept (arc_value kept) self.rows }
-        ensures { result ≡ self }
+    /// Keeps the text that the lists were read from.
+    pub(crate) fn keep(&mut self, kept: Arc<Kept, Global>)
+        requires { IsKept (arc_value kept) self.old.rows }
+        ensures { self.new ≡ self.old }
     {
-        let Opening { lists, kept: _ } = self;
-        Opening {
-            lists,
-            kept: Some(kept),
-        }
+        self.kept = Some(kept);
     }
 
     /// The text that they were read from, where it is kept.

@@ -122,21 +122,22 @@ impl OpenBooks {
     }
 
     /// These books, with the totals of this period.
-    pub(crate) fn with_period(self, alloc: Global, period: Period) -> Result<OpenBooks, Memory>
+    pub(crate) fn with_period(mut self, alloc: Global, period: Period) -> Result<OpenBooks, Memory>
         ensures { IfOk result (λ b. b.books ≡ record { period = period; ledger = self.books.ledger }) }
     {
         if period == self.period {
             return Ok(self);
         }
-        let OpenBooks {
-            period: _,
-            opening,
-            changed,
-            deductibles: _,
-            out_of_pockets: _,
-            family_deductibles: _,
-        } = self;
-        OpenBooks::added_up(alloc, period, opening, changed)
+        let Figures {
+            deductibles,
+            out_of_pockets,
+            family_deductibles,
+        } = summed(alloc, period, &self.opening, &self.changed)?;
+        self.period = period;
+        self.deductibles = deductibles;
+        self.out_of_pockets = out_of_pockets;
+        self.family_deductibles = family_deductibles;
+        Ok(self)
     }
 
     /// The same claims, of these members; each claim's is one of them, and no slot is open.

@@ -239,27 +239,13 @@ fn shared(alloc: Global, text: Vec<u8>) -> Result<Arc<Vec<u8>, Global>, Memory>
 
 impl OpenBooks {
     // The same books, which keep the text that they were read from.
-    fn keeping(self, kept: Arc<Kept, Global>) -> OpenBooks
+    fn keeping(mut self, kept: Arc<Kept, Global>) -> OpenBooks
         requires none_open { self.slots ≡ [] }
         requires kept { IsKept (arc_value kept) self.books.ledger.rows }
         ensures { result ≡ self }
     {
-        let OpenBooks {
-            period,
-            opening,
-            changed,
-            deductibles,
-            out_of_pockets,
-            family_deductibles,
-        } = self;
-        OpenBooks {
-            period,
-            opening: opening.keeping(kept),
-            changed,
-            deductibles,
-            out_of_pockets,
-            family_deductibles,
-        }
+        self.opening.keep(kept);
+        self
     }
 
     // Whether these are the figures of the members and the total lines of the families in a version.

@@ -11,7 +11,7 @@ ghost use Rattle.rx_diagnostics.specs.Likeness.{nearest};
 ghost use Rattle.rx_diagnostics.specs.Looks.{looks_like};
 ghost use Rattle.rx_diagnostics.specs.SheetNames.{meant_text};
 ghost use Rattle.rx_diagnostics.specs.SheetPlaces.{IsSheetPlace, sheet_place};
-ghost use Rattle.rx_diagnostics.specs.SheetTexts.{unread_sheet_text};
+ghost use Rattle.rx_diagnostics.specs.SheetTexts.{missing_text, unread_sheet_text};
 ghost use Rattle.rx_diagnostics.specs.SheetValues.{TellsDay, TellsDayText, TellsValue};
 ghost use Rattle.rx_diagnostics.specs.SheetWords.{AreAfter, AreAt, AreOfWhole, TellsOfBytes, TellsOfKind, TellsOfReading, TellsOfSheet};
 ghost use Rattle.rx_diagnostics.specs.SheetWords.{TellsWrong, TellsWrongIn, begins_character, comma_text, line_after};
@@ -272,13 +272,24 @@ fn missing_in(
 {
     match key {
         SheetKey::Tier | SheetKey::Price => no_drug_key(alloc, key, sheet),
-        _ => {
-            let meant = meant_in(alloc, key, text, sheet)?;
-            let mut said = missing_key(alloc, key)?;
-            said.push_str(meant.as_str())?;
-            Ok(said)
-        }
+        _ => missing_and_meant(alloc, key, text, sheet),
     }
+}
+
+// The same of a key of the sheet itself.
+fn missing_and_meant(
+    alloc: Global,
+    key: SheetKey,
+    text: &[u8],
+    sheet: &Table,
+) -> Result<String, AllocError>
+    ensures { IfOk result (λ said.
+        string_bytes said ≡ missing_text key ++ meant_for text.now key (table_view sheet.now)) }
+{
+    let meant = meant_in(alloc, key, text, sheet)?;
+    let mut said = missing_key(alloc, key)?;
+    said.push_str(meant.as_str())?;
+    Ok(said)
 }
 
 // The key that may be meant by one that isn't in a sheet.

@@ -13,9 +13,15 @@ use std::marker::Model;
 type ByProvider = IndexMap<Field, Vec<Line>>;
 
 /// Lines by provider, in order of first appearance.
-#[derive(Drop)]
 pub struct Groups {
     by_provider: ByProvider,
+}
+
+// Written out, so that freeing one is one call wherever a function ends early, not one for each of its fields.
+impl Drop for Groups {
+    fn drop(self) {
+        let Groups { by_provider: _ } = self;
+    }
 }
 
 impl Model for Groups {

@@ -24,12 +24,21 @@ const ENDS: usize = 96;
 pub type ByProvider = IndexMap<Field, Tally>;
 
 /// The tallies of a batch's replies.
-#[derive(Drop)]
 pub struct Settled {
     /// By provider.
     pub providers: ByProvider,
     /// Over all replies.
     pub total: Tally,
+}
+
+// Written out, so that freeing one is one call wherever a function ends early, not one for each of its fields.
+impl Drop for Settled {
+    fn drop(self) {
+        let Settled {
+            providers: _,
+            total: _,
+        } = self;
+    }
 }
 
 /// The settlement of a batch's replies: counts of their answers and the net in cents, per provider in order of first

@@ -17,7 +17,6 @@ pub struct JoinJob<'a> {
 }
 
 /// What a join gives.
-#[derive(Drop)]
 pub struct JoinOutput {
     /// The response file's bytes.
     pub response: Vec<u8>,
@@ -25,4 +24,15 @@ pub struct JoinOutput {
     pub settlement: Vec<u8>,
     /// That over the replies to the records of each plan, in their order.
     pub settlements: Vec<Vec<u8>>,
+}
+
+// Written out, so that freeing one is one call wherever a function ends early, not one for each of its fields.
+impl Drop for JoinOutput {
+    fn drop(self) {
+        let JoinOutput {
+            response: _,
+            settlement: _,
+            settlements: _,
+        } = self;
+    }
 }

@@ -33,7 +33,6 @@ pub struct PlanOutput {
 }
 
 /// What a switch gives.
-#[derive(Drop)]
 pub struct RouteOutput {
     /// The response file's bytes.
     pub response: Vec<u8>,
@@ -41,4 +40,15 @@ pub struct RouteOutput {
     pub settlement: Vec<u8>,
     /// What each plan gives, in their order.
     pub plans: Vec<PlanOutput>,
+}
+
+// Written out, so that freeing one is one call wherever a function ends early, not one for each of its fields.
+impl Drop for RouteOutput {
+    fn drop(self) {
+        let RouteOutput {
+            response: _,
+            settlement: _,
+            plans: _,
+        } = self;
+    }
 }

@@ -1,11 +1,11 @@
 //! The command for people: a batch is checked and adjudicated, and the outputs are written into a folder.
+use crate::check_files::checked;
 use crate::ending::Ending;
 use crate::file_fault::{FileFault, ProgramFile};
 use crate::moment::{stamp_or_now, workers_or_all};
 use crate::places::make_folder;
 use crate::run_files::{print_stamp, run_as};
 use crate::settings::{RunManner, RunPlan};
-use crate::shown_path::shown_path;
 use crate::texts::{open_each, read_opened};
 use rx_batch::read_batch;
 use rx_check::{Checked, Warnings, early_stamp};
@@ -26,8 +26,19 @@ pub fn adjudicate<R: Threads + Wait + Sync>(
     words: &AdjudicateWords<'_>,
 ) -> Result<(), Ending> {
     let inputs = open_each(rt, &words.inputs)?;
-    look(rt, words, &inputs)?;
-    rewind(rt, words, &inputs)?;
+    let plan = planned(rt, threads, words, &inputs)?;
+    run_as(rt, threads, &plan.settings(Some(&inputs))).map_err(in_folder)
+}
+
+// What the run is to do on inputs that were opened, once they are looked at and the folder is there.
+fn planned<R: Threads>(
+    rt: &HostRuntime,
+    threads: &R,
+    words: &AdjudicateWords<'_>,
+    inputs: &Inputs<File>,
+) -> Result<RunPlan, Ending> {
+    look(rt, words, inputs)?;
+    rewind(rt, words, inputs)?;
     make_out(rt, words.out)?;
     let stamp = stamp_or_now(rt, words.stamp)?;
     if !words.quiet {
@@ -35,8 +46,7 @@ pub fn adjudicate<R: Threads + Wait + Sync>(
     }
     let workers = workers_or_all(threads, words.workers);
     let manner = RunManner::of_adjudicate(words, workers, rt.stderr().is_terminal());
-    let plan = RunPlan::of_adjudicate(rt.alloc(), words, stamp, manner)?;
-    run_as(rt, threads, &plan.settings(Some(&inputs))).map_err(in_folder)
+    Ok(RunPlan::of_adjudicate(rt.alloc(), words, stamp, manner)?)
 }
 
 // Reports the faults of the inputs and the warnings, and ends where an input is refused or a warning stops the command.
@@ -45,7 +55,20 @@ fn look(
     words: &AdjudicateWords<'_>,
     inputs: &Inputs<File>,
 ) -> Result<(), Ending> {
-    let (checked, early) = checked(rt, words, inputs)?;
+    let texts = read_opened(rt, inputs, &words.inputs)?;
+    let checked = check(rt.alloc(), &words.inputs, &texts)?;
+    let early = early_text(rt.alloc(), words.stamp, &texts.batch)?;
+    drop(texts);
+    report(rt, words, &checked, early.as_str())
+}
+
+// Reports what a check found, and the warning of the stamp.
+fn report(
+    rt: &HostRuntime,
+    words: &AdjudicateWords<'_>,
+    checked: &Checked,
+    early: &str,
+) -> Result<(), Ending> {
     if let Some(fault) = checked.refusal {
         return Err(Ending::from(fault).in_words(without_end(rt.alloc(), &checked.text)?));
     }
@@ -73,31 +96,19 @@ fn why_stopped(
     }
 }
 
-// What a check finds, and the warning of the stamp.
-fn checked(
-    rt: &HostRuntime,
-    words: &AdjudicateWords<'_>,
-    inputs: &Inputs<File>,
-) -> Result<(Checked, String), Ending> {
-    let texts = read_opened(rt, inputs, &words.inputs)?;
-    let checked = check(rt.alloc(), &words.inputs, &texts)?;
-    let early = early_text(rt.alloc(), words.stamp, &texts.batch)?;
-    Ok((checked, early))
-}
-
+// What a check finds.
 fn check(alloc: Global, paths: &Inputs<&str>, texts: &Inputs<Vec<u8>>) -> Result<Checked, Memory> {
+    let paths = Inputs {
+        sheet: paths.sheet,
+        books: Some(paths.books),
+        batch: Some(paths.batch),
+    };
     let files = Inputs {
         sheet: texts.sheet.as_slice(),
         books: Some(texts.books.as_slice()),
         batch: Some(texts.batch.as_slice()),
     };
-    let shown = Inputs {
-        sheet: shown_path(alloc, paths.sheet)?,
-        books: shown_path(alloc, paths.books)?,
-        batch: shown_path(alloc, paths.batch)?,
-    };
-    let names = shown.as_ref().map(|name| name.as_str());
-    rx_check::check(alloc, &files, &names)
+    checked(alloc, &paths, &files)
 }
 
 // The warning of a stamp from before the batch, where one is given.

@@ -5,7 +5,9 @@ use crate::standard_output::print;
 use crate::texts::text_of;
 use rx_check::{Checked, Files};
 use rx_cli::CheckWords;
+use rx_fields::Memory;
 use rx_io::{Device, Inputs};
+use std::alloc::Global;
 
 /// Prints the first fault of each input file in words, and what a run would take and an operator would hardly mean. It
 /// ends with the first fault, as a run would, and where there are only warnings with a status of its own.
@@ -82,22 +84,26 @@ pub fn check_texts(
     paths: &CheckedPaths<'_>,
     files: &Files<'_>,
 ) -> Result<(), Ending> {
-    let shown = Inputs {
-        sheet: shown_path(rt.alloc(), paths.sheet)?,
-        books: shown_path(rt.alloc(), paths.books.unwrap_or(""))?,
-        batch: shown_path(rt.alloc(), paths.batch.unwrap_or(""))?,
-    };
-    let names = shown.as_ref().map(|name| name.as_str());
-    let Checked {
-        text,
-        refusal,
-        has_warnings,
-        warnings: _,
-    } = rx_check::check(rt.alloc(), files, &names)?;
-    print(rt, text.as_str().as_bytes())?;
-    match refusal {
+    let checked = checked(rt.alloc(), paths, files)?;
+    print(rt, checked.text.as_str().as_bytes())?;
+    match checked.refusal {
         Some(fault) => Err(Ending::from(fault)),
-        None if has_warnings => Err(Ending::Warned),
+        None if checked.has_warnings => Err(Ending::Warned),
         None => Ok(()),
     }
+}
+
+/// What a check finds in texts that were read, with their paths as messages show them.
+pub fn checked(
+    alloc: Global,
+    paths: &CheckedPaths<'_>,
+    files: &Files<'_>,
+) -> Result<Checked, Memory> {
+    let shown = Inputs {
+        sheet: shown_path(alloc, paths.sheet)?,
+        books: shown_path(alloc, paths.books.unwrap_or(""))?,
+        batch: shown_path(alloc, paths.batch.unwrap_or(""))?,
+    };
+    let names = shown.as_ref().map(|name| name.as_str());
+    rx_check::check(alloc, files, &names)
 }

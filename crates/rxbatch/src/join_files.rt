@@ -28,12 +28,23 @@ struct RunTexts {
 }
 
 // The plans of a plans file, with their texts in the same order, and the batch. The files are known.
-#[derive(Drop)]
 struct JoinInputs {
     plans: Vec<PlanFiles>,
     texts: Vec<RunTexts>,
     batch: Vec<u8>,
     known: KnownFiles,
+}
+
+// Written out, so that freeing one is one call wherever a function ends early, not one for each of its fields.
+impl Drop for JoinInputs {
+    fn drop(self) {
+        let JoinInputs {
+            plans: _,
+            texts: _,
+            batch: _,
+            known: _,
+        } = self;
+    }
 }
 
 /// Joins the response files of several plans' runs. Nothing is written where a file is refused. The outputs of all plans are

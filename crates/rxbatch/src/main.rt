@@ -132,31 +132,42 @@ fn perform<R: Threads + Wait + Sync>(rt: &HostRuntime, threads: &R) -> Result<()
         }
     }
     match asked {
-        Ok(Command::Run(words)) => run_files::run(rt, threads, &words),
-        Ok(Command::Adjudicate(words)) => adjudicate::adjudicate(rt, threads, &words),
-        Ok(Command::Fault(numbers)) => commands::fault(rt, &numbers),
-        Ok(Command::Show(words)) => for_programs(rt, commands::show(rt, threads, &words)),
-        Ok(Command::Sample) => for_programs(rt, commands::sample(rt)),
-        Ok(Command::Plan(words)) => for_programs(rt, commands::plan(rt, &words)),
-        Ok(Command::Check(words)) => check_files::check(rt, &words),
-        Ok(Command::Explain(words)) => commands::explain(rt, threads, &words),
-        Ok(Command::Excerpt(words)) => excerpt_files::excerpt(rt, threads, &words),
-        Ok(Command::Verify(words)) => commands::verify(rt, threads, &words),
-        Ok(Command::Report(words)) => commands::report(rt, threads, &words),
-        Ok(Command::Members(words)) => upkeep_files::members(rt, threads, &words),
-        Ok(Command::Age(words)) => upkeep_files::age(rt, threads, &words),
-        Ok(Command::ShowFamily(words)) => family_files::family(rt, threads, &words),
-        Ok(Command::Route(words)) => route_files::route(rt, threads, &words),
-        Ok(Command::Join(words)) => join_files::join(rt, threads, &words),
-        Ok(Command::Replies(path)) => commands::replies(rt, path),
-        Ok(Command::Compare(words)) => compare::compare(rt, threads, &words),
-        Ok(Command::Settle(words)) => settle::settle(rt, &words),
+        Ok(command) => perform_command(rt, threads, &command),
         Err(fault) if fault.is_version() => commands::print_asked(rt, &fault),
         Err(fault) if fault.is_help() && names_help(&words) => commands::print_asked(rt, &fault),
         Err(fault) => {
             print_negative_workers(rt, words.as_slice());
             Err(Ending::Words(fault))
         }
+    }
+}
+
+// Does what a command asks for.
+fn perform_command<R: Threads + Wait + Sync>(
+    rt: &HostRuntime,
+    threads: &R,
+    command: &Command<'_>,
+) -> Result<(), Ending> {
+    match command {
+        Command::Run(words) => run_files::run(rt, threads, words),
+        Command::Adjudicate(words) => adjudicate::adjudicate(rt, threads, words),
+        Command::Fault(numbers) => commands::fault(rt, numbers),
+        Command::Show(words) => for_programs(rt, commands::show(rt, threads, words)),
+        Command::Sample => for_programs(rt, commands::sample(rt)),
+        Command::Plan(words) => for_programs(rt, commands::plan(rt, words)),
+        Command::Check(words) => check_files::check(rt, words),
+        Command::Explain(words) => commands::explain(rt, threads, words),
+        Command::Excerpt(words) => excerpt_files::excerpt(rt, threads, words),
+        Command::Verify(words) => commands::verify(rt, threads, words),
+        Command::Report(words) => commands::report(rt, threads, words),
+        Command::Members(words) => upkeep_files::members(rt, threads, words),
+        Command::Age(words) => upkeep_files::age(rt, threads, words),
+        Command::ShowFamily(words) => family_files::family(rt, threads, words),
+        Command::Route(words) => route_files::route(rt, threads, words),
+        Command::Join(words) => join_files::join(rt, threads, words),
+        Command::Replies(path) => commands::replies(rt, path),
+        Command::Compare(words) => compare::compare(rt, threads, words),
+        Command::Settle(words) => settle::settle(rt, words),
     }
 }
 

@@ -65,11 +65,17 @@ fn shown_at(rt: &HostRuntime, time: Timestamp) -> DateTime {
 
 fn shown_in_zone(rt: &HostRuntime, time: Timestamp) -> Option<DateTime> {
     let system = SystemTimeZone::read(rt).ok()?;
-    let without = TimeZoneDatabase::new(rt.alloc());
-    if let Ok(zone) = system.time_zone(&without) {
-        return Some(zone.to_datetime(time));
+    match shown_by(&system, &TimeZoneDatabase::new(rt.alloc()), time) {
+        Some(shown) => Some(shown),
+        None => shown_by(&system, &TimeZoneDatabase::from_env(rt).ok()?, time),
     }
-    let zones = TimeZoneDatabase::from_env(rt).ok()?;
-    let zone = system.time_zone(&zones).ok()?;
-    Some(zone.to_datetime(time))
+}
+
+// The same, where the zone needs no file or is one of these.
+fn shown_by(
+    system: &SystemTimeZone,
+    zones: &TimeZoneDatabase,
+    time: Timestamp,
+) -> Option<DateTime> {
+    Some(system.time_zone(zones).ok()?.to_datetime(time))
 }

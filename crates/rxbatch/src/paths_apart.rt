@@ -11,11 +11,20 @@ use std::collections::BTreeMap;
 use std::fs;
 
 /// The files of a command that are known so far, each by what a message calls it.
-#[derive(Drop)]
 pub struct KnownFiles {
     // Under the place of each file, which no other has.
     labels: BTreeMap<String, String>,
     nodes: Vec<Node>,
+}
+
+// Written out, so that freeing one is one call wherever a function ends early, not one for each of its fields.
+impl Drop for KnownFiles {
+    fn drop(self) {
+        let KnownFiles {
+            labels: _,
+            nodes: _,
+        } = self;
+    }
 }
 
 impl KnownFiles {

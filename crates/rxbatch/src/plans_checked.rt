@@ -15,10 +15,16 @@ use rx_switch::SwitchFault;
 
 // What is known once a plan was checked: the files, and the BIN and the processor control number of each plan whose sheet is
 // accepted.
-#[derive(Drop)]
 struct CheckedPlans {
     known: KnownFiles,
     doors: Vec<Option<Door>>,
+}
+
+// Written out, so that freeing one is one call wherever a function ends early, not one for each of its fields.
+impl Drop for CheckedPlans {
+    fn drop(self) {
+        let CheckedPlans { known: _, doors: _ } = self;
+    }
 }
 
 /// Prints, below the name of each plan, the first fault of its sheet and of its books, and warnings, last the fault of the batch. It ends

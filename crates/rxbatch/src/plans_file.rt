@@ -45,61 +45,41 @@ impl SwitchPlans {
 fn plans_beside(
     alloc: Global,
     path: &str,
-    plans: Vec<PlanFiles>,
+    mut plans: Vec<PlanFiles>,
 ) -> Result<Vec<PlanFiles>, Memory> {
     let folder = match Path::new(path).parent() {
         Some(folder) if path != STREAM => folder.as_str(),
         _ => "",
     };
-    let mut found = Vec::with_capacity(alloc, plans.len())?;
-    for plan in plans {
-        found.push(plan_beside(alloc, folder, plan)?)?;
+    for plan in &mut plans {
+        put_beside(alloc, folder, &mut plan.sheet)?;
+        put_beside(alloc, folder, &mut plan.books)?;
+        put_beside(alloc, folder, &mut plan.books_out)?;
+        put_each_beside(alloc, folder, &mut plan.response)?;
+        put_each_beside(alloc, folder, &mut plan.settlement)?;
     }
-    Ok(found)
+    Ok(plans)
 }
 
-fn plan_beside(alloc: Global, folder: &str, plan: PlanFiles) -> Result<PlanFiles, Memory> {
-    let PlanFiles {
-        name,
-        sheet,
-        books,
-        books_out,
-        response,
-        settlement,
-    } = plan;
-    Ok(PlanFiles {
-        name,
-        sheet: path_beside(alloc, folder, sheet)?,
-        books: path_beside(alloc, folder, books)?,
-        books_out: path_beside(alloc, folder, books_out)?,
-        response: path_if_named(alloc, folder, response)?,
-        settlement: path_if_named(alloc, folder, settlement)?,
-    })
-}
-
-fn path_if_named(
-    alloc: Global,
-    folder: &str,
-    path: Option<String>,
-) -> Result<Option<String>, Memory> {
+// The same of a path that may be left out.
+fn put_each_beside(alloc: Global, folder: &str, path: &mut Option<String>) -> Result<(), Memory> {
     match path {
-        Some(path) => Ok(Some(path_beside(alloc, folder, path)?)),
-        None => Ok(None),
+        Some(path) => put_beside(alloc, folder, path),
+        None => Ok(()),
     }
 }
 
-// A path that is read from a folder. `-` is a file of that name.
-fn path_beside(alloc: Global, folder: &str, path: String) -> Result<String, Memory> {
+// Makes a path that is read from a folder one from here. `-` is a file of that name.
+fn put_beside(alloc: Global, folder: &str, path: &mut String) -> Result<(), Memory> {
     if path.as_str().starts_with('/') {
-        return Ok(path);
+        return Ok(());
     }
     if !folder.is_empty() {
-        return Ok(format!(in alloc; "{folder}/{path}")?);
+        *path = format!(in alloc; "{folder}/{path}")?;
+    } else if path.as_str() == STREAM {
+        *path = format!(in alloc; "./{path}")?;
     }
-    if path.as_str() == STREAM {
-        return Ok(format!(in alloc; "./{path}")?);
-    }
-    Ok(path)
+    Ok(())
 }
 
 // The ending where a plans file is refused: its numbers, and then the words.

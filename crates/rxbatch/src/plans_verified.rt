@@ -70,9 +70,19 @@ fn verify_read<R: Threads + Sync>(
         settlement: text_of(rt, settlement, Device::Settlement)?,
     };
     let output = inputs.route(rt, threads, batch, words.stamp, words.workers)?;
-    let lines = differences(rt, inputs, &output, &files)?;
+    verify_output(rt, inputs, &output, &files)
+}
+
+// The same of what the inputs give.
+fn verify_output(
+    rt: &HostRuntime,
+    inputs: &SwitchInputs,
+    output: &RouteOutput,
+    files: &SharedFiles,
+) -> Result<(), Ending> {
+    let lines = differences(rt, inputs, output, files)?;
     if lines.is_empty() {
-        return print_same(rt, &output);
+        return print_same(rt, output);
     }
     print(rt, &lines)?;
     Err(Ending::Differs)

@@ -76,12 +76,23 @@ impl SizedFile {
 }
 
 // What all lines of a run have. They own what they say, since a line borrows from one value.
-#[derive(Drop)]
 struct RunParts {
     start: Option<String>,
     host: Option<String>,
     stamp: String,
     lot: Option<LotParts>,
+}
+
+// Written out, so that freeing one is one call wherever a function ends early, not one for each of its fields.
+impl Drop for RunParts {
+    fn drop(self) {
+        let RunParts {
+            start: _,
+            host: _,
+            stamp: _,
+            lot: _,
+        } = self;
+    }
 }
 
 // The lot of the batch.
@@ -92,7 +103,6 @@ struct LotParts {
 }
 
 // What a line says.
-#[derive(Drop)]
 struct LineParts {
     run: RunParts,
     plan: Option<String>,
@@ -104,6 +114,24 @@ struct LineParts {
     totals: Option<Totals>,
     inputs: Inputs<SizedFile>,
     outputs: Outputs<SizedFile>,
+}
+
+// Written out, so that freeing one is one call wherever a function ends early, not one for each of its fields.
+impl Drop for LineParts {
+    fn drop(self) {
+        let LineParts {
+            run: _,
+            plan: _,
+            status: _,
+            refused: _,
+            file: _,
+            fault: _,
+            end_books_lines: _,
+            totals: _,
+            inputs: _,
+            outputs: _,
+        } = self;
+    }
 }
 
 /// The lines of a run that is done, one a plan.

@@ -39,12 +39,23 @@ impl PlanTexts {
 }
 
 /// The plans of a plans file, with their texts in the same order, and the batch. The files are known.
-#[derive(Drop)]
 pub struct SwitchInputs {
     pub plans: Vec<PlanFiles>,
     pub texts: Vec<PlanTexts>,
     pub batch: Vec<u8>,
     pub known: KnownFiles,
+}
+
+// Written out, so that freeing one is one call wherever a function ends early, not one for each of its fields.
+impl Drop for SwitchInputs {
+    fn drop(self) {
+        let SwitchInputs {
+            plans: _,
+            texts: _,
+            batch: _,
+            known: _,
+        } = self;
+    }
 }
 
 impl SwitchInputs {

@@ -199,7 +199,17 @@ pub fn age<R: Threads + Sync>(
     let ageing = Ageing::asked(rt, words)?;
     let books = opened(rt, words.books, Device::Books)?;
     let done = aged(rt, threads, words, &books, ageing)?;
-    write_aged(&done, rt, words, Node::of(&books))?;
+    finish_aged(&done, rt, words, Node::of(&books))
+}
+
+// Writes the outputs, and prints how many claims left.
+fn finish_aged(
+    done: &AgedText,
+    rt: &HostRuntime,
+    words: &AgeWords<'_>,
+    books: Node,
+) -> Result<(), Ending> {
+    write_aged(done, rt, words, books)?;
     let line = aged_line(rt.alloc(), done.left, done.first_safe)?;
     print(rt, line.as_str().as_bytes())
 }

@@ -44,14 +44,9 @@ pub fn run<R: Threads + Wait + Sync>(
         Some(log) => add_line(rt, words, log, &run),
         None => Ok(()),
     };
-    match (run.done, run.fault) {
-        (Ok(()), _) => {
-            logged?;
-            Ok(lines)
-        }
-        (Err(ending), Some(line)) if words.manner.explains_refusal => Err(ending.in_words(line)),
-        (Err(ending), _) => Err(ending),
-    }
+    run.into_done(words.manner.explains_refusal)?;
+    logged?;
+    Ok(lines)
 }
 
 // The SHA-256 of an input that a thread of its own summed.
@@ -71,6 +66,16 @@ struct WatchedRun {
     // When it began, as RFC 3339 has it.
     start: Option<String>,
     times: RunTimes,
+}
+
+impl WatchedRun {
+    // How it ended: in words where the refusal is explained.
+    fn into_done(self, explains_refusal: bool) -> Result<(), Ending> {
+        match (self.done, self.fault) {
+            (Err(ending), Some(line)) if explains_refusal => Err(ending.in_words(line)),
+            (done, _) => done,
+        }
+    }
 }
 
 // Adjudicates a batch file, and watches its files. The steps are reported on standard error where that is asked for.

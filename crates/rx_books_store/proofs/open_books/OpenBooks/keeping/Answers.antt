@@ -5,8 +5,8 @@ use Rattle.rx_books_store.specs.OpenBooks.{OpenParts}
 use Rattle.rx_books_store.proofs.KeptLines.{none_stand}
 use Rattle.rx_books_store.proofs.open_books.OpenBooks.keeping.Goals as goal
 
-pub keeping-requires : goal.keeping-requires
-keeping-requires c =
+pub keep-requires : goal.keep-requires
+keep-requires c =
     let inside = c.self.inside in
     let none = ap (λ (o : OpenParts). o.slots) c.self.view_is ∙ c.requires.none_open in
     let rows = ap (λ (o : OpenParts). o.books.ledger.rows) (sym c.self.view_is) ∙ none_stand inside.opening.rows inside.changed none in

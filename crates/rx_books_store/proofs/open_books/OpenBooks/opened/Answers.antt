@@ -14,8 +14,8 @@ pub merged-requires-clause-under : goal.merged-requires-clause-under
 merged-requires-clause-under c =
     slots-rise c.in_ok-fresh.fresh.items (rw c.in_ok-fresh.ensures.keys c.requires)
 
-pub invariant_of-result : goal.invariant_of-result
-invariant_of-result c =
+pub invariant_of-self : goal.invariant_of-self
+invariant_of-self c =
     let inside = c.self.inside in
     let fresh : List KeySlot = c.in_ok-fresh.fresh.items in
     let is : c.in_ok-changed.changed ≡ put_all key_cmp slot_key fresh inside.changed =
