@@ -55,18 +55,10 @@ fn plans_beside(
         put_beside(alloc, folder, &mut plan.sheet)?;
         put_beside(alloc, folder, &mut plan.books)?;
         put_beside(alloc, folder, &mut plan.books_out)?;
-        put_each_beside(alloc, folder, &mut plan.response)?;
-        put_each_beside(alloc, folder, &mut plan.settlement)?;
+        put_beside_if_named(alloc, folder, &mut plan.response)?;
+        put_beside_if_named(alloc, folder, &mut plan.settlement)?;
     }
     Ok(plans)
-}
-
-// The same of a path that may be left out.
-fn put_each_beside(alloc: Global, folder: &str, path: &mut Option<String>) -> Result<(), Memory> {
-    match path {
-        Some(path) => put_beside(alloc, folder, path),
-        None => Ok(()),
-    }
 }
 
 // Makes a path that is read from a folder one from here. `-` is a file of that name.
@@ -80,6 +72,18 @@ fn put_beside(alloc: Global, folder: &str, path: &mut String) -> Result<(), Memo
         *path = format!(in alloc; "./{path}")?;
     }
     Ok(())
+}
+
+// The same of a path that may be left out.
+fn put_beside_if_named(
+    alloc: Global,
+    folder: &str,
+    path: &mut Option<String>,
+) -> Result<(), Memory> {
+    match path {
+        Some(path) => put_beside(alloc, folder, path),
+        None => Ok(()),
+    }
 }
 
 // The ending where a plans file is refused: its numbers, and then the words.
