@@ -163,18 +163,8 @@ fn make_out(rt: &HostRuntime, path: &str) -> Result<(), Ending> {
 // The ending of the run, with the names that the outputs have for the command.
 fn in_folder(ending: Ending) -> Ending {
     match ending {
-        Ending::OneFile(one, other) => Ending::OneFile(name_of(one), name_of(other)),
-        Ending::NotPlain(one) => Ending::NotPlain(name_of(one)),
-        other => other,
-    }
-}
-
-fn name_of(option: &'static str) -> &'static str {
-    match option {
-        "--response" => "response.bin in --out",
-        "--books-out" => "books.txt in --out",
-        "--settlement" => "settlement.txt in --out",
-        "--log" => "log.jsonl in --out",
+        Ending::OneFile(one, other) => Ending::OneFile(one.in_folder(), other.in_folder()),
+        Ending::NotPlain(one) => Ending::NotPlain(one.in_folder()),
         other => other,
     }
 }

@@ -24,8 +24,8 @@ fn check_one(rt: &HostRuntime, paths: &CheckedPaths<'_>) -> Result<(), Ending> {
         Ok(texts) => {
             let files = Inputs {
                 sheet: texts.sheet.as_slice(),
-                books: texts.books.as_ref().map(|text| text.as_slice()),
-                batch: texts.batch.as_ref().map(|text| text.as_slice()),
+                books: texts.books.as_deref(),
+                batch: texts.batch.as_deref(),
             };
             check_texts(rt, paths, &files)
         }

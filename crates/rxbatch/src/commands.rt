@@ -1,6 +1,7 @@
 //! The commands that print a text, each from the files that its words name.
 use crate::ending::Ending;
 use crate::join_files::numbered_join;
+use crate::named::WrongValue;
 use crate::nodes::Node;
 use crate::origin::Noted;
 use crate::page_folder::write_pages;
@@ -182,7 +183,7 @@ pub fn explain<R: Threads + Sync>(
     };
     let reader = reader_by(words.for_provider)?;
     let (texts, response) = read_explained(rt, &paths, words.response)?;
-    let given = response.as_ref().map(|text| text.as_slice());
+    let given = response.as_deref();
     let printed = match explained(rt, threads, words, &slices(&texts), reader, given) {
         Ok(printed) => Ok(printed),
         Err(fault) => {
@@ -220,10 +221,7 @@ pub fn reader_by(id: Option<&str>) -> Result<Option<Provider>, Ending> {
     };
     match Provider::new(id.as_bytes()) {
         Ok(provider) => Ok(Some(provider)),
-        Err(_) => Err(Ending::NoValue(
-            "--for-provider",
-            "an id of 1 to 15 printable characters without '|'",
-        )),
+        Err(_) => Err(Ending::NoValue(WrongValue::Provider)),
     }
 }
 
@@ -345,10 +343,7 @@ fn need_reader(words: &ReportWords<'_>) -> Result<(), Ending> {
     };
     reader_by(Some(id))?;
     match words.form {
-        FormWords::Html | FormWords::HtmlDir(_) => Err(Ending::NoValue(
-            "--for-provider",
-            "a report without '--html' and '--html-dir'",
-        )),
+        FormWords::Html | FormWords::HtmlDir(_) => Err(Ending::NoValue(WrongValue::ProviderPage)),
         _ => Ok(()),
     }
 }

@@ -1,6 +1,6 @@
 use crate::file_fault::{FileFault, ProgramFile, Reason};
+use crate::named::{Named, WrongValue};
 use rx_batch::BatchFault;
-use rx_cli::WordsFault;
 use rx_fields::Memory;
 use rx_io::Device;
 use rx_switch::{IoFault, SwitchFault, told};
@@ -13,20 +13,20 @@ use std::io::Write;
 pub enum Ending {
     /// A word of the command line isn't text.
     NoText,
+    /// The words aren't understood; what is wrong with them was printed.
+    Misused,
     /// These are one regular file, as far as the system says: the files of two options, or one and a standard stream.
-    OneFile(&'static str, &'static str),
+    OneFile(Named, Named),
     /// The paths of these two options are `-`.
-    TwoStreams(&'static str, &'static str),
+    TwoStreams(Named, Named),
     /// The files that the words name can't be written so: a line says why.
     Conflict(String),
     /// The path of this option is there, and leads to no regular file; `--safe` replaces no other.
-    NotPlain(&'static str),
-    /// The value of this option isn't what is expected.
-    NoValue(&'static str, &'static str),
-    /// The words aren't understood, or memory ran out while they were read.
-    Words(WordsFault),
-    /// The inputs are refused, or memory ran out.
-    Refused(SwitchFault),
+    NotPlain(Named),
+    /// The value of an option isn't what is expected.
+    NoValue(WrongValue),
+    /// Out of memory.
+    Memory,
     /// A file failed.
     File(FileFault),
     /// One of these two, or a text that isn't a response file, with lines in words.
@@ -58,13 +58,13 @@ pub enum Numbers {
 
 impl From<AllocError> for Ending {
     fn from(_refused: AllocError) -> Ending {
-        Ending::Refused(SwitchFault::Memory)
+        Ending::Memory
     }
 }
 
 impl<T: Drop> From<AllocFailed<T>> for Ending {
     fn from(_refused: AllocFailed<T>) -> Ending {
-        Ending::Refused(SwitchFault::Memory)
+        Ending::Memory
     }
 }
 
@@ -80,13 +80,13 @@ impl Numbers {
 
 impl From<SwitchFault> for Ending {
     fn from(fault: SwitchFault) -> Ending {
-        Ending::Refused(fault)
+        Ending::Bare(numbers_of(fault))
     }
 }
 
 impl From<Memory> for Ending {
     fn from(_refused: Memory) -> Ending {
-        Ending::Refused(SwitchFault::Memory)
+        Ending::Memory
     }
 }
 
@@ -94,7 +94,7 @@ impl Ending {
     /// The ending where a text can't be read as a response file.
     pub fn of_response(fault: BatchFault) -> Ending {
         match fault {
-            BatchFault::Memory => Ending::from(Memory),
+            BatchFault::Memory => Ending::Memory,
             fault => {
                 let numbers = [u64::from(fault.code()), fault.place().unwrap_or(0)];
                 Ending::Bare(Numbers::Response(numbers))
@@ -131,10 +131,15 @@ impl Ending {
         }
     }
 
+    /// The ending where a call on an input failed.
+    pub fn of_input(device: Device, error: io::Error) -> Ending {
+        Ending::File(FileFault::of(ProgramFile::Of(device), error))
+    }
+
     /// The ending where a call on an output failed.
     pub fn of_output(file: ProgramFile, error: io::Error) -> Ending {
         match error.kind() {
-            io::ErrorKind::OutOfMemory => Ending::from(Memory),
+            io::ErrorKind::OutOfMemory => Ending::Memory,
             _ => Ending::File(FileFault::of(file, error)),
         }
     }
@@ -153,7 +158,7 @@ impl Ending {
     /// The ending of a run on devices, with what the system answered last, where that call failed.
     pub fn of_run(fault: IoFault, last: Option<io::Error>) -> Ending {
         let (device, reason) = match fault {
-            IoFault::Switch(refused) => return Ending::Refused(refused),
+            IoFault::Switch(refused) => return Ending::from(refused),
             IoFault::Long(device) => (device, Reason::Long),
             IoFault::Read(device) | IoFault::Write(device) => match last {
                 Some(error) => (device, Reason::System(error)),
@@ -203,12 +208,10 @@ impl Ending {
     /// there, 5 where a file differs.
     pub fn status(&self) -> u8 {
         match self {
-            Ending::NoText | Ending::OneFile(..) | Ending::TwoStreams(..) | Ending::NotPlain(_) =>
-                2,
-            Ending::Conflict(_) | Ending::NoValue(..) => 2,
-            Ending::Words(WordsFault::Words(_)) => 2,
-            Ending::Words(WordsFault::Memory) => 1,
-            Ending::Refused(_) => 1,
+            Ending::NoText | Ending::Misused | Ending::NoValue(_) => 2,
+            Ending::OneFile(..) | Ending::TwoStreams(..) => 2,
+            Ending::Conflict(_) | Ending::NotPlain(_) => 2,
+            Ending::Memory => 1,
             Ending::File(_) => 3,
             Ending::InWords(numbers, _) | Ending::Bare(numbers) => numbers.status(),
             Ending::Warned | Ending::Stopped(_) | Ending::NotFound(_) => 4,
@@ -219,7 +222,7 @@ impl Ending {
     /// The numbers of a refused run, or of a file that failed.
     pub fn numbers(&self) -> Option<Numbers> {
         match self {
-            Ending::Refused(fault) => Some(numbers_of(*fault)),
+            Ending::Memory => Some(numbers_of(SwitchFault::Memory)),
             Ending::File(fault) => Some(Numbers::File(fault.file.number())),
             Ending::InWords(numbers, _) | Ending::Bare(numbers) => Some(*numbers),
             _ => None,
@@ -238,9 +241,13 @@ impl Ending {
     pub fn words(&self, alloc: Global) -> Option<String> {
         match self {
             Ending::OneFile(one, other) => {
+                let (one, other) = (one.text(), other.text());
                 format!(in alloc; "{one} and {other} are the same file").ok()
             }
-            Ending::NotPlain(one) => format!(in alloc; "{one} isn't a regular file").ok(),
+            Ending::NotPlain(one) => {
+                let one = one.text();
+                format!(in alloc; "{one} isn't a regular file").ok()
+            }
             _ => None,
         }
     }
@@ -249,18 +256,25 @@ impl Ending {
     pub fn print(&self, rt: &HostRuntime) {
         let _ = match self {
             Ending::NoText => eprintln!(rt; "rxbatch: an argument isn't valid UTF-8"),
-            Ending::OneFile(one, other) => eprintln!(rt;
-                "rxbatch: {one} and {other} are the same file"
-            ),
-            Ending::TwoStreams(one, other) => eprintln!(rt;
-                "rxbatch: {one} and {other} are both -: only one path may be (/dev/stdin and /dev/stdout are the same streams)"
-            ),
-            Ending::NotPlain(one) => eprintln!(rt; "rxbatch: {one} isn't a regular file"),
-            Ending::NoValue(option, expected) => {
+            Ending::OneFile(one, other) => {
+                let (one, other) = (one.text(), other.text());
+                eprintln!(rt; "rxbatch: {one} and {other} are the same file")
+            }
+            Ending::TwoStreams(one, other) => {
+                let (one, other) = (one.text(), other.text());
+                eprintln!(rt;
+                    "rxbatch: {one} and {other} are both -: only one path may be (/dev/stdin and /dev/stdout are the same streams)"
+                )
+            }
+            Ending::NotPlain(one) => {
+                let one = one.text();
+                eprintln!(rt; "rxbatch: {one} isn't a regular file")
+            }
+            Ending::NoValue(wrong) => {
+                let (option, expected) = (wrong.option(), wrong.expected());
                 eprintln!(rt; "rxbatch: {option}: expected {expected}")
             }
-            Ending::Words(fault) => eprint!(rt; "{fault}"),
-            Ending::Refused(fault) => print_numbers(rt, numbers_of(*fault)),
+            Ending::Memory => print_numbers(rt, numbers_of(SwitchFault::Memory)),
             Ending::File(fault) if fault.is_closed_output() => Ok(()),
             Ending::File(fault) => print_numbers(rt, Numbers::File(fault.file.number())),
             Ending::InWords(numbers, line) => {
@@ -270,8 +284,38 @@ impl Ending {
             Ending::Bare(numbers) => print_numbers(rt, *numbers),
             Ending::Stopped(line) | Ending::Conflict(line) => eprintln!(rt; "rxbatch: {line}"),
             Ending::NotFound(line) => rt.stderr().write_all(line.as_slice()),
-            Ending::Warned | Ending::Differs => Ok(()),
+            Ending::Misused | Ending::Warned | Ending::Differs => Ok(()),
         };
+    }
+}
+
+/// What may end the work at a file.
+pub trait AtPath<T> {
+    /// The same of a file that failed with its words: the option, this path, and the reason.
+    fn at_path(self, rt: &HostRuntime, path: &str) -> Result<T, Ending>;
+}
+
+impl<T> AtPath<T> for Result<T, Ending> {
+    fn at_path(self, rt: &HostRuntime, path: &str) -> Result<T, Ending> {
+        match self {
+            Ok(done) => Ok(done),
+            Err(ending) => Err(ending.at_path(rt, path)),
+        }
+    }
+}
+
+/// What the system answers to a call on an output.
+pub trait OfOutput<T> {
+    /// The ending where the call failed.
+    fn of_output(self, file: ProgramFile) -> Result<T, Ending>;
+}
+
+impl<T> OfOutput<T> for io::Result<T> {
+    fn of_output(self, file: ProgramFile) -> Result<T, Ending> {
+        match self {
+            Ok(done) => Ok(done),
+            Err(error) => Err(Ending::of_output(file, error)),
+        }
     }
 }
 

@@ -1,6 +1,6 @@
 //! The command `excerpt`: a record of a batch with what it hangs on, written into a folder of its own.
 use crate::commands::{not_explained, read_explained};
-use crate::ending::Ending;
+use crate::ending::{AtPath, Ending};
 use crate::file_fault::ProgramFile;
 use crate::page_folder::write_file;
 use crate::places::{Found, make_folder};
@@ -31,7 +31,7 @@ pub fn excerpt<R: Threads + Sync>(
         rt.alloc(),
         &slices(&texts),
         words.place,
-        response.as_ref().map(|text| text.as_slice()),
+        response.as_deref(),
     );
     let made = made.map_err(|fault| not_excerpted(rt, words, &texts, response.as_ref(), fault));
     drop((texts, response));
@@ -75,7 +75,7 @@ fn write_all(rt: &HostRuntime, folder: &str, made: &Excerpt) -> Result<(), Endin
 
 fn write_one(rt: &HostRuntime, folder: &str, name: &str, text: &[u8]) -> Result<(), Ending> {
     let path = Path::new(folder).join(rt.alloc(), name)?;
-    write_file(rt, FILE, path.as_str(), text).map_err(|ending| ending.at_path(rt, path.as_str()))
+    write_file(rt, FILE, path.as_str(), text).at_path(rt, path.as_str())
 }
 
 // The ending if there is no excerpt.

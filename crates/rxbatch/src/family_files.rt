@@ -80,7 +80,7 @@ fn shown_in<'x, R: Threads + Sync>(
 ) -> Result<Option<Vec<u8>>, Ending> {
     let form = form_by(words, noted)?;
     let parts = usize::from(workers_or_all(threads, None));
-    let sheet = texts.sheet.as_ref().map(|text| text.as_slice());
+    let sheet = texts.sheet.as_deref();
     let asked = FamilyAsked {
         family: words.family.as_bytes(),
         person: words.person.map(|person| person.as_bytes()),
@@ -113,7 +113,7 @@ fn refused<'x>(
         batch: "",
     };
     let texts = Inputs {
-        sheet: texts.sheet.as_ref().map(|text| text.as_slice()),
+        sheet: texts.sheet.as_deref(),
         books: Some(texts.books.as_slice()),
         batch: None,
     };

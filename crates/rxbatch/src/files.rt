@@ -18,7 +18,10 @@ pub fn names_stream(path: &str) -> bool {
 /// The file, opened for reading, or standard input; one that can't be opened is a fault of it.
 pub fn open_input(rt: &HostRuntime, path: &str, device: Device) -> Result<File, Ending> {
     let path = if path == STREAM { "/dev/stdin" } else { path };
-    fs::open(rt, path).map_err(|error| Ending::File(FileFault::of(ProgramFile::Of(device), error)))
+    match fs::open(rt, path) {
+        Ok(file) => Ok(file),
+        Err(error) => Err(Ending::of_input(device, error)),
+    }
 }
 
 /// Opens the inputs, in the order of their numbers.

@@ -1,8 +1,9 @@
 //! The outputs of a run that writes them where they stand, each of them locked meanwhile.
 use crate::beside_file::{BesideFile, NotMade};
-use crate::ending::Ending;
+use crate::ending::{Ending, OfOutput};
 use crate::file_fault::ProgramFile;
 use crate::files::names_stream;
+use crate::named::Named;
 use crate::nodes::Node;
 use crate::output_file::OutputFile;
 use crate::places::{Found, followed_path};
@@ -73,19 +74,19 @@ impl InPlace {
 
     /// Empties those that are regular files.
     pub fn empty(&self) -> Result<(), Ending> {
-        self.files.as_ref().try_map(|device, file| written(
-            file.output.empty(),
-            ProgramFile::Of(device),
-        ))?;
+        self.files.as_ref().try_map(|device, file| file
+            .output
+            .empty()
+            .of_output(ProgramFile::Of(device)))?;
         Ok(())
     }
 
     /// Brings those that are regular files to the disk, and the names of new ones, and lets the locks go.
     pub fn keep(self, rt: &HostRuntime) -> Result<(), Ending> {
-        let kept = self.files.as_ref().try_map(|device, file| written(
-            file.output.keep(rt),
-            ProgramFile::Of(device),
-        ));
+        let kept = self.files.as_ref().try_map(|device, file| file
+            .output
+            .keep(rt)
+            .of_output(ProgramFile::Of(device)));
         self.leave(rt);
         kept?;
         Ok(())
@@ -136,12 +137,12 @@ impl LockedFile {
 
     /// Empties a regular file.
     pub fn empty(&self, name: ProgramFile) -> Result<(), Ending> {
-        written(self.output.empty(), name)
+        self.output.empty().of_output(name)
     }
 
     /// Brings a regular file to the disk, and the name of a new one, and lets the lock go.
     pub fn keep(self, rt: &HostRuntime, name: ProgramFile) -> Result<(), Ending> {
-        let kept = written(self.output.keep(rt), name);
+        let kept = self.output.keep(rt).of_output(name);
         self.leave(rt);
         kept
     }
@@ -163,7 +164,7 @@ fn held(name: ProgramFile, node: Node, opened: &[(ProgramFile, &LockedFile)]) ->
     for (other, file) in opened {
         if let Some(lock) = &file.lock {
             if node.is_same(Node::of(&lock.file)) {
-                return Ending::OneFile(other.option(), name.option());
+                return Ending::OneFile(Named::File(*other), Named::File(name));
             }
         }
     }
@@ -190,9 +191,4 @@ fn let_go(rt: &HostRuntime, lock: Option<BesideFile>) {
     if let Some(lock) = lock {
         lock.remove(rt);
     }
-}
-
-// What was done to an output; a fault of the system's is a fault of it.
-fn written<T: Drop>(done: io::Result<T>, file: ProgramFile) -> Result<T, Ending> {
-    done.map_err(|error| Ending::of_output(file, error))
 }

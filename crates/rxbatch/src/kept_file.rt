@@ -1,8 +1,9 @@
 //! An output of a command that keeps books up: it is opened when the text for it is there.
-use crate::ending::Ending;
+use crate::ending::{Ending, OfOutput};
 use crate::file_fault::ProgramFile;
 use crate::files::names_stream;
 use crate::in_place::LockedFile;
+use crate::named::Named;
 use crate::nodes::Node;
 use crate::noted_file::{LastError, noted_output};
 use crate::safe_files::{SafeFile, SoFar};
@@ -82,11 +83,11 @@ impl KeptFile {
         let node = self.node();
         for (other, other_node) in others {
             if node.may_be(*other_node) {
-                return Some(Ending::OneFile(other.option(), name.option()));
+                return Some(Ending::OneFile(Named::File(*other), Named::File(name)));
             }
         }
         let stream = stream_of(rt, node)?;
-        Some(Ending::OneFile(name.option(), stream))
+        Some(Ending::OneFile(Named::File(name), stream))
     }
 
     /// Writes the text, and brings it to the disk.
@@ -167,7 +168,8 @@ impl KeptFile {
 // Standard output is for what the command prints.
 fn refuse_stream(path: &str, name: ProgramFile) -> Result<(), Ending> {
     if names_stream(path) {
-        return Err(Ending::OneFile(name.option(), "standard output"));
+        let output = Named::File(ProgramFile::Output);
+        return Err(Ending::OneFile(Named::File(name), output));
     }
     Ok(())
 }
@@ -190,6 +192,5 @@ fn write_pieces(
 /// Writes the text to a file.
 pub fn write_all(file: &File, name: ProgramFile, text: &[u8]) -> Result<(), Ending> {
     let mut to = file;
-    to.write_all(text)
-        .map_err(|error| Ending::of_output(name, error))
+    to.write_all(text).of_output(name)
 }

@@ -1,6 +1,7 @@
 //! The file of a run's log.
 use crate::ending::Ending;
 use crate::file_fault::ProgramFile;
+use crate::named::Named;
 use crate::nodes::Node;
 use crate::output_file::OutputFile;
 use crate::paths_apart::KnownFiles;
@@ -24,7 +25,7 @@ impl LogFile {
         let log = LogFile { output };
         if let Some(other) = log.other_name(rt, words) {
             log.output.remove_made(rt);
-            return Err(Ending::OneFile(other, "--log"));
+            return Err(Ending::OneFile(other, Named::File(ProgramFile::Log)));
         }
         Ok(log)
     }
@@ -52,7 +53,7 @@ impl LogFile {
     }
 
     // The option of the run's file, or the standard stream, that is this one.
-    fn other_name(&self, rt: &HostRuntime, words: &RunSettings<'_>) -> Option<&'static str> {
+    fn other_name(&self, rt: &HostRuntime, words: &RunSettings<'_>) -> Option<Named> {
         let node = self.node();
         let (inputs, outputs) = (words.inputs, words.outputs);
         let files = [
@@ -66,7 +67,7 @@ impl LogFile {
         for (device, path) in files {
             if let Ok(metadata) = fs::metadata(rt, path) {
                 if node.may_be(Node::in_metadata(&metadata)) {
-                    return Some(device.option());
+                    return Some(Named::of(device));
                 }
             }
         }

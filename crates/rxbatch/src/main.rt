@@ -59,6 +59,7 @@ mod join_files;
 mod kept_file;
 mod log_file;
 mod moment;
+mod named;
 mod negative_workers;
 mod nodes;
 mod noted_file;
@@ -137,7 +138,7 @@ fn perform<R: Threads + Wait + Sync>(rt: &HostRuntime, threads: &R) -> Result<()
         Err(fault) if fault.is_help() && names_help(&words) => commands::print_asked(rt, &fault),
         Err(fault) => {
             print_negative_workers(rt, words.as_slice());
-            Err(Ending::Words(fault))
+            Err(misused(rt, &fault))
         }
     }
 }
@@ -195,13 +196,24 @@ fn names_help(words: &Vec<String>) -> bool {
     }
 }
 
+// The ending where the words aren't understood: what is wrong with them is printed.
+fn misused(rt: &HostRuntime, fault: &WordsFault) -> Ending {
+    match fault {
+        WordsFault::Words(_) => {
+            let _ = eprint!(rt; "{fault}");
+            Ending::Misused
+        }
+        WordsFault::Memory => Ending::Memory,
+    }
+}
+
 // The words of the command line, the program's name first.
 fn words(rt: &HostRuntime) -> Result<Vec<String>, Ending> {
     let given = env::args(rt).map_err(|error| unread(&error))?;
     let mut words = Vec::new(rt.alloc());
     for word in given {
         if words.push(word).is_err() {
-            return Err(Ending::Words(WordsFault::Memory));
+            return Err(Ending::Memory);
         }
     }
     Ok(words)
@@ -210,7 +222,7 @@ fn words(rt: &HostRuntime) -> Result<Vec<String>, Ending> {
 // Why the words can't be had.
 fn unread(error: &io::Error) -> Ending {
     match error.kind() {
-        io::ErrorKind::OutOfMemory => Ending::Words(WordsFault::Memory),
+        io::ErrorKind::OutOfMemory => Ending::Memory,
         _ => Ending::NoText,
     }
 }

@@ -1,3 +1,4 @@
+use crate::named::Named;
 use rx_io::{Device, Inputs, Outputs};
 use std::fs::{File, Metadata};
 use std::os::unix::fs::MetadataExt;
@@ -57,10 +58,7 @@ const DEVICES: [Device; 6] = [
 
 /// The options of an output and of another file that are one regular file, as far as the system says. Writing that
 /// output would lose the other.
-pub fn one_file_twice(
-    inputs: Inputs<Node>,
-    outputs: Outputs<Node>,
-) -> Option<(&'static str, &'static str)> {
+pub fn one_file_twice(inputs: Inputs<Node>, outputs: Outputs<Node>) -> Option<(Named, Named)> {
     let nodes = [
         inputs.sheet,
         inputs.books,
@@ -72,7 +70,7 @@ pub fn one_file_twice(
     for output in 3..6 {
         for other in 0..output {
             if nodes[output].may_be(nodes[other]) {
-                return Some((DEVICES[other].option(), DEVICES[output].option()));
+                return Some((Named::of(DEVICES[other]), Named::of(DEVICES[output])));
             }
         }
     }

@@ -2,6 +2,7 @@
 use crate::ending::Ending;
 use crate::file_fault::ProgramFile;
 use crate::kept_file::write_all;
+use crate::named::Named;
 use crate::nodes::Node;
 use crate::places::make_folder;
 use crate::safe_files::{SafeFile, SoFar};
@@ -14,9 +15,6 @@ use std::path::{Path, PathBuf};
 use std::{fs, io};
 
 const PAGE: ProgramFile = ProgramFile::Page;
-
-// What a message calls such a file.
-const ONE_PAGE: &str = "a page in --html-dir";
 
 /// Writes the pages into a folder, which is made where it isn't there: the first page last, since it leads to the others. A
 /// page gets its name when it is whole; other files stay. Nothing is written where a page would replace one of these inputs.
@@ -62,11 +60,11 @@ fn keep_inputs(
         let node = Node::in_metadata(&found);
         for (device, input) in inputs {
             if node.may_be(input) {
-                return Err(Ending::OneFile(device.option(), ONE_PAGE));
+                return Err(Ending::OneFile(Named::of(device), Named::OnePage));
             }
         }
         if let Some(stream) = stream_of(rt, node) {
-            return Err(Ending::OneFile(ONE_PAGE, stream));
+            return Err(Ending::OneFile(Named::OnePage, stream));
         }
     }
     Ok(())

@@ -112,7 +112,7 @@ fn output_place(
         Ok(metadata) => {
             let node = Node::in_metadata(&metadata);
             match stream_of(rt, node) {
-                Some(stream) => Err(one_file(alloc, label, stream)?),
+                Some(stream) => Err(one_file(alloc, label, stream.text())?),
                 None => Ok(node_place(alloc, node)?),
             }
         }

@@ -28,7 +28,7 @@ pub fn explain<R: Threads + Sync>(
     reader_by(words.for_provider)?;
     let given = SwitchInputs::read(rt, plans, batch)?;
     let response = response_given(rt, words.response)?;
-    let response = response.as_ref().map(|text| text.as_slice());
+    let response = response.as_deref();
     match place_asked(&words.asked) {
         Some(place) => explain_record(rt, threads, words, place, batch, &given, response),
         None => explain_each(rt, threads, words, batch, &given, response),

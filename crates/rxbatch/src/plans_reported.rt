@@ -1,6 +1,7 @@
 //! `report` for the plans of a plans file.
 use crate::commands::{need_lines, portion_by, stamp_by};
 use crate::ending::Ending;
+use crate::named::WrongValue;
 use crate::plan_json::{name_member, put_named_lines, put_object};
 use crate::plan_words::plan_head;
 use crate::refused_text::inputs;
@@ -67,10 +68,7 @@ fn form_by(words: FormWords<'_>) -> Result<PlansForm, Ending> {
         FormWords::Tsv => Ok(PlansForm::Tsv),
         FormWords::Json => Ok(PlansForm::Json),
         FormWords::Jsonl => Ok(PlansForm::Jsonl),
-        FormWords::Html | FormWords::HtmlDir(_) => Err(Ending::NoValue(
-            "--plans",
-            "a report without '--html' and '--html-dir', which are of one plan",
-        )),
+        FormWords::Html | FormWords::HtmlDir(_) => Err(Ending::NoValue(WrongValue::PlansPage)),
     }
 }
 

@@ -1,5 +1,6 @@
 //! `verify` for the plans of a plans file.
 use crate::ending::Ending;
+use crate::named::WrongValue;
 use crate::plan_words::plan_line;
 use crate::standard_output::print;
 use crate::switch_inputs::{SwitchInputs, plan_text};
@@ -48,7 +49,7 @@ pub fn verify<R: Threads + Sync>(
     outputs: (&str, &str),
 ) -> Result<(), Ending> {
     if words.plain || words.desk {
-        return Err(Ending::NoValue("--plans", "neither '--plain' nor '--desk'"));
+        return Err(Ending::NoValue(WrongValue::PlansRun));
     }
     let (plans, batch) = inputs;
     let inputs = SwitchInputs::read(rt, plans, batch)?;

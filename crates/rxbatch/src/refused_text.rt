@@ -33,7 +33,7 @@ impl<'a> GivenTexts<'a> {
     pub fn refused(&self, rt: &HostRuntime, fault: SwitchFault) -> Ending {
         match self.words(rt, fault) {
             Ok(line) => Ending::InWords(numbers_of(fault), line),
-            Err(Memory) => Ending::Refused(fault),
+            Err(Memory) => Ending::from(fault),
         }
     }
 

@@ -3,6 +3,7 @@ use crate::fault_line::{explained, long_books_words};
 use crate::file_fault::{FileFault, ProgramFile};
 use crate::files::{names_stream, open_inputs};
 use crate::moment::{stamp_or_now, workers_or_all};
+use crate::named::Named;
 use crate::nodes::{Node, one_file_twice};
 use crate::noted_file::{CountedFile, LastError, LinesWritten, noted_input, noted_output};
 use crate::outputs::RunOutputs;
@@ -119,10 +120,10 @@ impl RunFiles {
 // The same open files, under descriptors of their own.
 fn same_files(files: &Inputs<File>) -> Result<Inputs<File>, Ending> {
     files.as_ref().try_map(|device, file| {
-        file.try_clone().map_err(|error| Ending::File(FileFault::of(
-            ProgramFile::Of(device),
-            error,
-        )))
+        match file.try_clone() {
+            Ok(file) => Ok(file),
+            Err(error) => Err(Ending::of_input(device, error)),
+        }
     })
 }
 
@@ -132,7 +133,7 @@ fn one_twice(
     words: &RunSettings<'_>,
     inputs: Inputs<Node>,
     outputs: &RunOutputs,
-) -> Option<(&'static str, &'static str)> {
+) -> Option<(Named, Named)> {
     let outputs = outputs.nodes();
     if let Some(options) = one_file_twice(inputs, outputs) {
         return Some(options);
@@ -148,7 +149,7 @@ fn one_twice(
             continue;
         }
         if let Some(stream) = stream_of(rt, node) {
-            return Some((device.option(), stream));
+            return Some((Named::of(device), stream));
         }
     }
     None

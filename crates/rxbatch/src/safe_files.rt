@@ -1,8 +1,9 @@
 //! The outputs of a run that is to leave each earlier file as it is until the whole run is done.
 use crate::beside_file::{BesideFile, NotMade};
-use crate::ending::Ending;
+use crate::ending::{Ending, OfOutput};
 use crate::file_fault::{FileFault, ProgramFile, Reason};
 use crate::files::names_stream;
+use crate::named::Named;
 use crate::nodes::Node;
 use crate::places::{Found, new_path};
 use rx_io::{Device, Outputs};
@@ -41,16 +42,15 @@ impl SafeFile {
         so_far: &SoFar<'_>,
     ) -> Result<SafeFile, Ending> {
         if names_stream(path) {
-            return Err(Ending::NotPlain(name.option()));
+            return Err(Ending::NotPlain(Named::File(name)));
         }
-        let failed = |error: io::Error| Ending::of_output(name, error);
-        match Found::at(rt, path).map_err(failed)? {
+        match Found::at(rt, path).of_output(name)? {
             Found::Plain(path) => SafeFile::over(rt, path, name, so_far),
             Found::Nothing => {
-                let path = new_path(rt, path).map_err(failed)?;
+                let path = new_path(rt, path).of_output(name)?;
                 SafeFile::beside(rt, path, name, so_far)
             }
-            Found::DeadLink | Found::Other => Err(Ending::NotPlain(name.option())),
+            Found::DeadLink | Found::Other => Err(Ending::NotPlain(Named::File(name))),
         }
     }
 
@@ -96,9 +96,7 @@ impl SafeFile {
             let error = io::Error::from(ErrorKind::InvalidInput);
             return Err(Ending::of_output(name, error));
         };
-        let folder = fs::open(rt, parent).map_err(|error: io::Error| Ending::of_output(
-            name, error,
-        ))?;
+        let folder = fs::open(rt, parent).of_output(name)?;
         match BesideFile::make(rt, parent, last, so_far.kept) {
             Ok(beside) => Ok(SafeFile {
                 beside,
@@ -129,30 +127,25 @@ impl SafeFile {
 
     /// Brings the bytes to the disk.
     pub fn keep(&self) -> Result<(), Ending> {
-        self.file()
-            .sync_all()
-            .map_err(|error| Ending::of_output(self.name, error))
+        self.file().sync_all().of_output(self.name)
     }
 
     /// Gives the file its path.
     pub fn rename(&mut self, rt: &HostRuntime) -> Result<(), Ending> {
         self.beside
             .rename(rt, self.path.as_path())
-            .map_err(|error| Ending::of_output(self.name, error))
+            .of_output(self.name)
     }
 
     /// Brings the new name to the disk.
     pub fn keep_name(&self) -> Result<(), Ending> {
-        self.folder
-            .sync_all()
-            .map_err(|error| Ending::of_output(self.name, error))
+        self.folder.sync_all().of_output(self.name)
     }
 
     /// Looks whether the path leads to the file.
     pub fn look(&self, rt: &HostRuntime) -> Result<(), Ending> {
-        let failed = |error: io::Error| Ending::of_output(self.name, error);
-        let file = self.file().metadata().map_err(failed)?;
-        let found = fs::symlink_metadata(rt, self.path.as_path()).map_err(failed)?;
+        let file = self.file().metadata().of_output(self.name)?;
+        let found = fs::symlink_metadata(rt, self.path.as_path()).of_output(self.name)?;
         if Node::in_metadata(&file).is_same(Node::in_metadata(&found)) {
             return Ok(());
         }
@@ -245,7 +238,7 @@ fn rename_each(rt: &HostRuntime, files: &mut Outputs<SafeFile>) -> Result<(), En
 fn held(name: ProgramFile, node: Node, made: &[&SafeFile]) -> Ending {
     for other in made {
         if node.is_same(Node::of(other.file())) {
-            return Ending::OneFile(other.name.option(), name.option());
+            return Ending::OneFile(Named::File(other.name), Named::File(name));
         }
     }
     Ending::busy(name)

@@ -104,7 +104,7 @@ impl RunPlan {
                 books: self.outputs.books.as_str(),
                 settlement: self.outputs.settlement.as_str(),
             },
-            log: self.log.as_ref().map(|log| log.as_str()),
+            log: self.log.as_deref(),
             stamp: self.stamp.as_str(),
             manner: self.manner,
         }

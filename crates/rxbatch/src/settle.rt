@@ -1,6 +1,7 @@
 //! `settle`: the settlement of response files, all together.
 use crate::ending::{Ending, Numbers};
 use crate::files::STREAM;
+use crate::named::Named;
 use crate::refused_text::refused_response;
 use crate::shown_path::shown_path;
 use crate::standard_output::print;
@@ -10,13 +11,11 @@ use rx_commands::{CycleFault, settle_cycle};
 use rx_fields::{Memory, trimmed};
 use rx_io::Device;
 
-// The option of the files.
-const RESPONSE: &str = "--response";
-
 /// Prints the settlement of response files, or the line of one provider.
 pub fn settle(rt: &HostRuntime, words: &SettleWords<'_>) -> Result<(), Ending> {
     if names_stream_twice(&words.responses) {
-        return Err(Ending::TwoStreams(RESPONSE, RESPONSE));
+        let response = Named::of(Device::Response);
+        return Err(Ending::TwoStreams(response, response));
     }
     let files = read_files(rt, &words.responses)?;
     let provider = words.provider.map(|id| trimmed(id.as_bytes()));

@@ -1,4 +1,6 @@
 //! The standard streams of the program.
+use crate::file_fault::ProgramFile;
+use crate::named::Named;
 use crate::nodes::Node;
 use std::fs;
 use std::fs::File;
@@ -25,12 +27,12 @@ impl TakenStreams {
     }
 }
 
-/// What a message calls the standard stream that leads to this regular file, if one of the two that are written does or may,
-/// because the system doesn't say.
-pub fn stream_of(rt: &HostRuntime, node: Node) -> Option<&'static str> {
+/// The standard stream that leads to this regular file, if one of the two that are written does or may, because the system
+/// doesn't say.
+pub fn stream_of(rt: &HostRuntime, node: Node) -> Option<Named> {
     let streams = [
-        ("/proc/self/fd/1", "standard output"),
-        ("/proc/self/fd/2", "standard error"),
+        ("/proc/self/fd/1", Named::File(ProgramFile::Output)),
+        ("/proc/self/fd/2", Named::StandardError),
     ];
     for (path, name) in streams {
         let stream = match fs::metadata(rt, path) {

@@ -1,5 +1,5 @@
 //! The files that a command reads whole.
-use crate::ending::Ending;
+use crate::ending::{AtPath, Ending};
 use crate::files::open_input;
 use crate::noted_file::{LastError, noted_input};
 use rx_fields::Memory;
@@ -12,7 +12,7 @@ use std::sync::Arc;
 
 /// The file at a path, opened. One that can't be opened is reported in words too.
 pub fn opened(rt: &HostRuntime, path: &str, device: Device) -> Result<File, Ending> {
-    open_input(rt, path, device).map_err(|ending| ending.at_path(rt, path))
+    open_input(rt, path, device).at_path(rt, path)
 }
 
 /// The whole text of the file at a path. One that can't be read is reported in words too.
@@ -28,7 +28,7 @@ pub fn text_in(
     path: &str,
     device: Device,
 ) -> Result<Vec<u8>, Ending> {
-    bytes_in(rt, file, device).map_err(|ending| ending.at_path(rt, path))
+    bytes_in(rt, file, device).at_path(rt, path)
 }
 
 /// The whole text of an opened file. One that can't be read is reported without words.

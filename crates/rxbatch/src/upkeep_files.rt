@@ -1,7 +1,7 @@
 //! The commands that keep books up, on files.
 ghost use Rattle.std.specs.Prelude.{◌≤◌, IfOk};
 
-use crate::ending::Ending;
+use crate::ending::{AtPath, Ending};
 use crate::file_fault::ProgramFile;
 use crate::files::open_input;
 use crate::kept_file::KeptFile;
@@ -138,7 +138,7 @@ fn write_members(
 ) -> Result<(), Ending> {
     let Some(report) = words.report else {
         let put = write_books(rt, words.books_out, words.safe, inputs, &done.books);
-        return put.map_err(|ending| ending.at_path(rt, words.books_out));
+        return put.at_path(rt, words.books_out);
     };
     let mut texts = Vec::new(rt.alloc());
     texts.push(changes_text(rt.alloc(), &done.changes)?)?;
@@ -227,7 +227,7 @@ impl Ageing {
         ensures { IfOk result (λ ageing. ageing.refill_percent ≤ 100) }
     {
         Ok(Ageing {
-            before: day_in(words.before, "--before")?,
+            before: day_in(words.before)?,
             period: match words.period {
                 Some(period) => Some(period_in(period)?),
                 None => None,

@@ -2,23 +2,24 @@
 ghost use Rattle.std.specs.Prelude.{◌≤◌, IfOk};
 
 use crate::ending::Ending;
+use crate::named::WrongValue;
 use crate::refused_text::refused_sheet;
 use crate::texts::text_of;
 use rx_fields::{Day, Period, date_read, number_read};
 use rx_io::Device;
 use rx_sheet::read_sheet;
 
-/// The day of an option's eight digits.
-pub fn day_in(text: &str, option: &'static str) -> Result<Day, Ending> {
-    date_read(text.as_bytes()).map_err(|_| Ending::NoValue(option, "a date of eight digits"))
+/// The day of the eight digits of `--before`.
+pub fn day_in(text: &str) -> Result<Day, Ending> {
+    match date_read(text.as_bytes()) {
+        Ok(day) => Ok(day),
+        Err(_) => Err(Ending::NoValue(WrongValue::Day)),
+    }
 }
 
 /// The period of two days with a hyphen between them.
 pub fn period_in(text: &str) -> Result<Period, Ending> {
-    let wrong = Ending::NoValue(
-        "--period",
-        "two dates of eight digits with a hyphen between them, the first not after the last",
-    );
+    let wrong = Ending::NoValue(WrongValue::Period);
     let Some((first, last)) = text.split_once('-') else {
         return Err(wrong);
     };
@@ -36,7 +37,7 @@ pub fn percent_in(text: &str) -> Result<u64, Ending>
 {
     match number_read(text.as_bytes(), 3) {
         Ok(number) if number <= 100 => Ok(number),
-        _ => Err(Ending::NoValue("--refill-percent", "0 to 100")),
+        _ => Err(Ending::NoValue(WrongValue::Percent)),
     }
 }
 
