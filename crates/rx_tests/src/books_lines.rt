@@ -1,63 +1,14 @@
-// What no clause says: that lines of claims are lent from the text that was read, and that the text of touched books is the
-// one that is written anew, whichever claims were touched.
+// What no clause says: that lines of claims are lent from the text that was read.
 use crate::same::same;
 use crate::values::{TODAY, claim, key, member, this_year};
 use rx_books_store::{Books, OpenBooks};
 use rx_d0_values::Amounts;
 use rx_fields::Key;
-use rx_io::{Pieces, VecSink};
+use rx_io::Pieces;
 use rx_ledger::{Ledger, Row};
 use std::alloc::Global;
 use std::process::Abort;
 use std::thread::Threads;
-
-// The most parts that a text is read and written in here.
-const MOST: usize = 4;
-
-// What is done to the claim under a reference number.
-#[derive(Clone, Copy)]
-enum Touch {
-    // A slot is kept for it, and nothing else.
-    Opened,
-    // One is added.
-    Added,
-    // It is taken out.
-    TakenOut,
-    // It is taken out, and added again.
-    PutBack,
-    // It is taken out, and one of another fee added.
-    Replaced,
-}
-
-use Touch::{Added, Opened, PutBack, Replaced, TakenOut};
-
-// How many claims there are, under the reference numbers 10, 20 and so on, and which are touched.
-const CASES: &[(u64, &[(u64, Touch)])] = &[
-    (5, &[]),
-    (5, &[(10, Replaced)]),
-    (5, &[(50, Replaced)]),
-    (1, &[(10, Replaced)]),
-    (1, &[(10, TakenOut)]),
-    (6, &[(10, Replaced), (30, TakenOut), (50, Replaced)]),
-    (6, &[(20, TakenOut), (40, Replaced), (60, TakenOut)]),
-    (
-        4,
-        &[
-            (10, Replaced),
-            (20, Replaced),
-            (30, Replaced),
-            (40, Replaced),
-        ],
-    ),
-    (3, &[(10, TakenOut), (20, TakenOut), (30, TakenOut)]),
-    (3, &[(5, Added), (15, Added), (25, Added), (35, Added)]),
-    (3, &[(5, Added), (6, Added), (31, Added), (32, Added)]),
-    (0, &[(10, Added)]),
-    (4, &[(10, Opened), (25, Opened), (40, Opened)]),
-    (4, &[(20, PutBack), (30, Opened), (40, PutBack)]),
-    (9, &[(45, Added), (50, TakenOut)]),
-    (9, &[(50, Replaced), (55, Added)]),
-];
 
 // The claim under a reference number, of this fee.
 fn billed(rt: &impl Abort, reference: u64, dispensing_fee: u64) -> Row {
@@ -116,90 +67,22 @@ fn take_out(rt: &impl Abort, books: &mut OpenBooks, key: &Key) {
     let _row = books.remove(slot);
 }
 
-// Touches a claim.
-fn make_touch(rt: &impl Abort, books: &mut OpenBooks, reference: u64, touch: Touch) {
+// The books, in which the claim under a reference number is replaced by one of another fee.
+fn replaced_once(rt: &impl Abort, alloc: Global, books: Books, reference: u64) -> Books {
     let key = key(rt, reference, TODAY);
-    match touch {
-        Opened => {}
-        Added => add(rt, books, billed(rt, reference, 175)),
-        TakenOut => take_out(rt, books, &key),
-        PutBack => {
-            take_out(rt, books, &key);
-            add(rt, books, billed(rt, reference, 175));
-        }
-        Replaced => {
-            take_out(rt, books, &key);
-            add(rt, books, billed(rt, reference, 275));
-        }
-    }
-}
-
-// The books, in which a claim is touched.
-fn touched_once(rt: &impl Abort, alloc: Global, books: Books, reference: u64, how: Touch) -> Books {
-    let keys = [key(rt, reference, TODAY)];
-    let mut books = books.open(alloc, &keys).expect(rt, "memory");
-    make_touch(rt, &mut books, reference, how);
+    let mut books = books.open(alloc, &[key]).expect(rt, "memory");
+    take_out(rt, &mut books, &key);
+    add(rt, &mut books, billed(rt, reference, 275));
     books.close()
 }
 
-// The books, in which these claims are touched.
-fn touched(rt: &impl Abort, alloc: Global, books: Books, touches: &[(u64, Touch)]) -> Books {
+// The books, in which these claims are replaced.
+fn replaced(rt: &impl Abort, alloc: Global, books: Books, references: &[u64]) -> Books {
     let mut books = books;
-    for (reference, how) in touches {
-        books = touched_once(rt, alloc, books, *reference, *how);
+    for reference in references {
+        books = replaced_once(rt, alloc, books, *reference);
     }
     books
-}
-
-// What a sink takes of pieces, this many bytes a call.
-fn taken(rt: &impl Abort, alloc: Global, pieces: &Pieces, most: usize) -> Vec<u8> {
-    let mut sink = VecSink::new(alloc, most);
-    pieces.write_to(alloc, &mut sink).expect(rt, "written");
-    sink.bytes().to_vec(alloc).expect(rt, "memory")
-}
-
-// The text of the books is this one, however it is written.
-fn is_written<R: Threads + Sync + Abort>(rt: &R, alloc: Global, books: &Books, expected: &[u8]) {
-    let text = books.write(alloc).expect(rt, "memory");
-    same(rt, text.as_slice(), expected);
-    for parts in 1..MOST {
-        let pieces = books.write_pieces(rt, alloc, parts).expect(rt, "memory");
-        same(rt, taken(rt, alloc, &pieces, 7).as_slice(), expected);
-        same(rt, taken(rt, alloc, &pieces, 9999).as_slice(), expected);
-        let text = pieces.joined(alloc).expect(rt, "memory");
-        same(rt, text.as_slice(), expected);
-        is_written_in_parts(rt, alloc, books, parts, expected);
-    }
-}
-
-// The text of the books is this one, where it is written in this many parts.
-fn is_written_in_parts<R: Threads + Sync + Abort>(
-    rt: &R,
-    alloc: Global,
-    books: &Books,
-    parts: usize,
-    expected: &[u8],
-) {
-    let mut text = Vec::new(alloc);
-    let list = books.write_parts(rt, alloc, parts).expect(rt, "memory");
-    for pieces in &list {
-        let more = taken(rt, alloc, pieces, 7);
-        text.extend_from_slice(&more).expect(rt, "memory");
-    }
-    same(rt, text.as_slice(), expected);
-}
-
-#[test]
-fn touched_claims_are_written(rt: HostRuntime) {
-    let alloc = rt.alloc();
-    for (claims, touches) in CASES {
-        for parts in 1..MOST {
-            let books = touched(&rt, alloc, kept(&rt, alloc, parts, *claims), touches);
-            let ledger = books.ledger(alloc).expect(&rt, "memory");
-            let expected = written_anew(&rt, alloc, &ledger);
-            is_written(&rt, alloc, &books, &expected);
-        }
-    }
 }
 
 // Whether parts of another text are among the pieces of the text of books.
@@ -211,16 +94,30 @@ fn are_lent<R: Threads + Sync + Abort>(rt: &R, alloc: Global, books: &Books, par
     }
 }
 
-// Few claims are touched; all are, which one thread lends, and several write anew.
+// Few claims are replaced; all are, which one thread lends, and several write anew.
 #[test]
 fn lines_of_a_text_that_is_kept_are_lent(rt: HostRuntime) {
     let alloc = rt.alloc();
-    let few: &[(u64, Touch)] = &[(50, Replaced)];
-    let all: &[(u64, Touch)] = &[(10, Replaced), (20, Replaced)];
-    let books = touched(&rt, alloc, kept(&rt, alloc, 1, 9), few);
+    let books = replaced(&rt, alloc, kept(&rt, alloc, 1, 9), &[50]);
     same(&rt, are_lent(&rt, alloc, &books, 1), true);
     same(&rt, are_lent(&rt, alloc, &books, 3), true);
-    let books = touched(&rt, alloc, kept(&rt, alloc, 1, 2), all);
+    let books = replaced(&rt, alloc, kept(&rt, alloc, 1, 2), &[10, 20]);
     same(&rt, are_lent(&rt, alloc, &books, 1), true);
     same(&rt, are_lent(&rt, alloc, &books, 3), false);
+}
+
+// The books, with one member more.
+fn with_newcomer(rt: &impl Abort, alloc: Global, books: &Books) -> Books {
+    let newcomer = member(rt, b"C150", b"01", b"20261231").expect(rt, "a member");
+    let mut ledger = books.ledger(alloc).expect(rt, "memory");
+    ledger.add_member(newcomer).expect(rt, "a new member");
+    let (members, _) = ledger.into_lists();
+    books.with_members(alloc, members).expect(rt, "memory")
+}
+
+#[test]
+fn lines_are_lent_beside_a_new_member(rt: HostRuntime) {
+    let alloc = rt.alloc();
+    let books = with_newcomer(&rt, alloc, &kept(&rt, alloc, 1, 9));
+    same(&rt, are_lent(&rt, alloc, &books, 1), true);
 }

@@ -55,12 +55,6 @@ fn is_read<R: Threads + Sync + Abort>(rt: &R, alloc: Global, parts: usize, text:
     is_exact(rt, alloc, text, read_lists_in_parts(rt, alloc, parts, text));
 }
 
-// The text is left to the exact reader, whole or in two parts.
-fn is_left<R: Threads + Sync + Abort>(rt: &R, alloc: Global, text: &[u8]) {
-    assert!(rt; read_lists(alloc, text).is_none());
-    assert!(rt; read_lists_in_parts(rt, alloc, 2, text).is_none());
-}
-
 #[test]
 fn reads_in_one_part(rt: HostRuntime) {
     one_reading();
@@ -76,20 +70,4 @@ fn reads_alike_in_any_parts(rt: HostRuntime) {
     for parts in 1..BOOKS.len() {
         is_read(&rt, rt.alloc(), parts, BOOKS);
     }
-}
-
-#[test]
-fn gives_up_on_what_is_no_file(rt: HostRuntime) {
-    is_left(&rt, rt.alloc(), &BOOKS[..BOOKS.len() - 1]);
-    is_left(&rt, rt.alloc(), b"");
-    is_left(
-        &rt,
-        rt.alloc(),
-        b"BOOKS|3|20260101|20261231\nT|C200|0|0\nT|C100|0|0\n",
-    );
-    is_left(
-        &rt,
-        rt.alloc(),
-        b"BOOKS|3|20260101|20261231\nT|C100|0|0\nM|C100|01|20260101|20261231|0\n",
-    );
 }

@@ -1,8 +1,6 @@
-// What no clause says: that a reading and a writing succeed, and devices that don't report their bytes.
+// What no clause says: how many calls a reading takes, and devices that don't report their bytes.
 use crate::same::same;
-use rx_io::{
-    Failed, ReaderSource, SliceSource, VecSink, WriterSink, read_all, write_all, write_pieces,
-};
+use rx_io::{Failed, ReaderSource, VecSink, WriterSink, read_all, write_all, write_pieces};
 use std::alloc::{AllocError, Global};
 use std::io;
 use std::io::{ErrorKind, Read};
@@ -23,23 +21,6 @@ impl Read for Signalled {
         }
         self.is_over = true;
         Err(io::Error::from(ErrorKind::Interrupted))
-    }
-}
-
-#[test]
-fn reads_pieces_of_any_size(rt: HostRuntime) {
-    for most in &[1usize, 7, 4096] {
-        let text = read_all(rt.alloc(), &mut SliceSource::new(TEXT, *most));
-        same(&rt, text.expect(&rt, "a text").as_slice(), TEXT);
-    }
-}
-
-#[test]
-fn writes_pieces_of_any_size(rt: HostRuntime) {
-    for most in &[1usize, 7, 4096] {
-        let mut sink = VecSink::new(rt.alloc(), *most);
-        same(&rt, write_all(&mut sink, TEXT), Ok(()));
-        same(&rt, sink.bytes(), TEXT);
     }
 }
 
@@ -85,13 +66,6 @@ fn reads_the_same_text_by_any_hint(rt: HostRuntime) {
         same(&rt, text.expect(&rt, "a text").as_slice(), long.as_slice());
         same(&rt, source.calls() <= *most, true);
     }
-}
-
-#[test]
-fn writes_what_std_does(rt: HostRuntime) {
-    let mut copy = WriterSink::new(Vec::new(rt.alloc()));
-    same(&rt, write_all(&mut copy, TEXT), Ok(()));
-    same(&rt, copy.into_inner().as_slice(), TEXT);
 }
 
 #[test]

@@ -20,8 +20,8 @@ const PAID: &[u8] =
 const REFUSED: &[u8] =
     b"D0B11A011234567893     20260228\x1D\x1E\x1CAM21\x1CANR\x1CFA01\x1CFB83\x1E\x1CAM22\x1CEM1\x1CD2000000000123";
 
-/// The header of the worked cases' batch.
-pub(crate) fn head(rt: &impl Abort) -> Head {
+// The header of the worked cases' batch.
+fn head(rt: &impl Abort) -> Head {
     let day = date_read(b"20260301").expect(rt, "a date");
     Head {
         kind: Kind::Transmission,
@@ -41,8 +41,8 @@ fn text_of_reply(number: u64) -> &'static [u8] {
     if number % 7 == 0 { REFUSED } else { PAID }
 }
 
-/// Details that ask nothing.
-pub(crate) fn details(rt: &impl Abort, alloc: Global) -> Vec<Detail> {
+// Details that ask nothing.
+fn details(rt: &impl Abort, alloc: Global) -> Vec<Detail> {
     let mut details = Vec::new(alloc);
     for number in 0..DETAILS {
         let reference: [u8; 10] = digits_write(number);
@@ -53,8 +53,8 @@ pub(crate) fn details(rt: &impl Abort, alloc: Global) -> Vec<Detail> {
     details
 }
 
-/// The reply to each.
-pub(crate) fn replies(rt: &impl Abort, alloc: Global) -> Vec<Reply> {
+// The reply to each.
+fn replies(rt: &impl Abort, alloc: Global) -> Vec<Reply> {
     let mut replies = Vec::new(alloc);
     for number in 0..DETAILS {
         let reply = decode_reply(alloc, text_of_reply(number)).expect(rt, "a reply");
