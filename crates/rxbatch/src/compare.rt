@@ -18,21 +18,50 @@ pub fn compare<R: Threads + Sync>(
     threads: &R,
     words: &CompareWords<'_>,
 ) -> Result<(), Ending> {
-    let texts = read_each(rt, &words.inputs)?;
-    let sheet = other_text(rt, "--with-sheet", words.with_sheet, Device::Sheet)?;
-    let books = other_text(rt, "--with-books", words.with_books, Device::Books)?;
-    let given = slices(&texts);
-    let others = Others {
-        sheet: given_or(sheet.as_ref(), given.sheet),
-        books: given_or(books.as_ref(), given.books),
-    };
-    let printed = rx_commands::compare(threads, rt.alloc(), &given, others, form_by(words));
-    let printed = match printed {
-        Ok(text) => Ok(text),
-        Err(fault) => Err(not_compared(rt, words, &texts, sheet.as_ref(), books.as_ref(), fault)),
-    };
-    drop((texts, sheet, books));
+    let texts = ComparedTexts::read(rt, words)?;
+    let printed = compared(rt, threads, words, &texts);
+    drop(texts);
     print(rt, &printed?)
+}
+
+// The inputs, and what is given in place of one.
+#[derive(Drop)]
+struct ComparedTexts {
+    given: Inputs<Vec<u8>>,
+    sheet: Option<Vec<u8>>,
+    books: Option<Vec<u8>>,
+}
+
+impl ComparedTexts {
+    fn read(rt: &HostRuntime, words: &CompareWords<'_>) -> Result<ComparedTexts, Ending> {
+        Ok(ComparedTexts {
+            given: read_each(rt, &words.inputs)?,
+            sheet: other_text(rt, "--with-sheet", words.with_sheet, Device::Sheet)?,
+            books: other_text(rt, "--with-books", words.with_books, Device::Books)?,
+        })
+    }
+
+    // The sheet and the books that are compared with the given ones.
+    fn others(&self) -> Others<'_> {
+        Others {
+            sheet: given_or(self.sheet.as_ref(), self.given.sheet.as_slice()),
+            books: given_or(self.books.as_ref(), self.given.books.as_slice()),
+        }
+    }
+}
+
+// The text that is printed of these.
+fn compared<R: Threads + Sync>(
+    rt: &HostRuntime,
+    threads: &R,
+    words: &CompareWords<'_>,
+    texts: &ComparedTexts,
+) -> Result<Vec<u8>, Ending> {
+    let (given, others) = (slices(&texts.given), texts.others());
+    match rx_commands::compare(threads, rt.alloc(), &given, others, form_by(words)) {
+        Ok(text) => Ok(text),
+        Err(fault) => Err(not_compared(rt, words, texts, fault)),
+    }
 }
 
 // The text of a file that may be left out. One that can't be opened or read is reported in words too.
@@ -70,20 +99,23 @@ fn form_by(words: &CompareWords<'_>) -> CompareForm {
 fn not_compared(
     rt: &HostRuntime,
     words: &CompareWords<'_>,
-    texts: &Inputs<Vec<u8>>,
-    sheet: Option<&Vec<u8>>,
-    books: Option<&Vec<u8>>,
+    texts: &ComparedTexts,
     fault: CompareFault,
 ) -> Ending {
     match fault {
-        CompareFault::Given(fault) => refused(rt, &words.inputs, texts, fault),
+        CompareFault::Given(fault) => refused(rt, &words.inputs, &texts.given, fault),
         CompareFault::Changed(fault) => {
-            let sheet_path = words.with_sheet.unwrap_or(words.inputs.sheet);
-            let books_path = words.with_books.unwrap_or(words.inputs.books);
-            let sheet = given_or(sheet, texts.sheet.as_slice());
-            let books = given_or(books, texts.books.as_slice());
-            let batch = (words.inputs.batch, texts.batch.as_slice());
-            refused_changed(rt, (sheet_path, sheet), (books_path, books), batch, fault)
+            let others = texts.others();
+            let sheet = words.with_sheet.unwrap_or(words.inputs.sheet);
+            let books = words.with_books.unwrap_or(words.inputs.books);
+            let batch = (words.inputs.batch, texts.given.batch.as_slice());
+            refused_changed(
+                rt,
+                (sheet, others.sheet),
+                (books, others.books),
+                batch,
+                fault,
+            )
         }
     }
 }

@@ -2,10 +2,12 @@
 use crate::ending::{Ending, Numbers};
 use crate::paths_apart::KnownFiles;
 use crate::plan_words::plan_line;
-use crate::plans_file::{PLANS, SwitchPlans};
+use crate::plans_file::PLANS;
 use crate::refused_text::response_words;
 use crate::shown_path::shown_path;
-use crate::switch_inputs::{read_batch, refused_batch, refused_door, refused_plan, text_at};
+use crate::switch_inputs::{
+    PlanAt, PlansInputs, ReadPlan, refused_batch, refused_door, refused_plan, text_at,
+};
 use crate::switch_outputs::{add_common_outputs, add_settlement, write_common, write_settlement};
 use rx_cli::JoinWords;
 use rx_fields::Memory;
@@ -27,25 +29,21 @@ struct RunTexts {
     response: Vec<u8>,
 }
 
-// The plans of a plans file, with their texts in the same order, and the batch. The files are known.
-struct JoinInputs {
-    plans: Vec<PlanFiles>,
-    texts: Vec<RunTexts>,
-    batch: Vec<u8>,
-    known: KnownFiles,
-}
-
-// Written out, so that freeing one is one call wherever a function ends early, not one for each of its fields.
-impl Drop for JoinInputs {
-    fn drop(self) {
-        let JoinInputs {
-            plans: _,
-            texts: _,
-            batch: _,
-            known: _,
-        } = self;
+impl ReadPlan for RunTexts {
+    fn read(rt: &HostRuntime, at: PlanAt<'_>, known: &mut KnownFiles) -> Result<Self, Ending> {
+        let PlanAt { number, plan } = at;
+        let name = plan.name.as_str();
+        let Some(path) = &plan.response else {
+            return Err(no_response(rt, name, number));
+        };
+        let sheet = text_at(rt, name, "sheet", plan.sheet.as_str(), Device::Sheet, known)?;
+        let response = text_at(rt, name, "response", path.as_str(), Device::Response, known)?;
+        Ok(RunTexts { sheet, response })
     }
 }
+
+// The plans, each with its sheet and its response file, and the batch.
+type JoinInputs = PlansInputs<RunTexts>;
 
 /// Joins the response files of several plans' runs. Nothing is written where a file is refused. The outputs of all plans are
 /// written first, and then the settlement of each.
@@ -59,7 +57,7 @@ pub fn join<R: Threads + Sync>(
     inputs.write(rt, words, &output)
 }
 
-impl JoinInputs {
+impl PlansInputs<RunTexts> {
     // Those that are named, of which no output is one.
     fn beside_outputs(rt: &HostRuntime, words: &JoinWords<'_>) -> Result<JoinInputs, Ending> {
         let mut inputs = JoinInputs::read(rt, words.files.plans, words.files.batch)?;
@@ -85,25 +83,6 @@ impl JoinInputs {
             write_settlement(rt, plan, settlement, words.safe, kept)?;
         }
         Ok(())
-    }
-
-    // Reads the plans file, plan by plan its sheet and its response file, and the batch file.
-    fn read(rt: &HostRuntime, plans: &str, batch: &str) -> Result<JoinInputs, Ending> {
-        let SwitchPlans { plans, node } = SwitchPlans::read(rt, plans)?;
-        let mut known = KnownFiles::new(rt.alloc());
-        known.add_input(rt, String::from_str(rt.alloc(), "--plans")?, node)?;
-        let mut texts = Vec::with_capacity(rt.alloc(), plans.len())?;
-        for plan in &plans {
-            let text = read_run(rt, plan, texts.len(), &mut known)?;
-            texts.push(text)?;
-        }
-        let batch = read_batch(rt, batch, &mut known)?;
-        Ok(JoinInputs {
-            plans,
-            texts,
-            batch,
-            known,
-        })
     }
 
     // The texts of the outputs. The path is that of the batch.
@@ -146,22 +125,6 @@ impl JoinInputs {
             _ => Ending::from(Memory),
         }
     }
-}
-
-// Reads the sheet and the response file of the plan with this number, which are known from then on.
-fn read_run(
-    rt: &HostRuntime,
-    plan: &PlanFiles,
-    number: usize,
-    known: &mut KnownFiles,
-) -> Result<RunTexts, Ending> {
-    let name = plan.name.as_str();
-    let Some(path) = &plan.response else {
-        return Err(no_response(rt, name, number));
-    };
-    let sheet = text_at(rt, name, "sheet", plan.sheet.as_str(), Device::Sheet, known)?;
-    let response = text_at(rt, name, "response", path.as_str(), Device::Response, known)?;
-    Ok(RunTexts { sheet, response })
 }
 
 // The ending where the plans file names no response file of a plan.

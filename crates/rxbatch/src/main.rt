@@ -127,18 +127,27 @@ fn main(rt: HostRuntime) -> ExitCode {
 fn perform<R: Threads + Wait + Sync>(rt: &HostRuntime, threads: &R) -> Result<(), Ending> {
     let words = words(rt)?;
     let asked = command(rt.alloc(), words.as_slice());
-    if may_name_paths(&asked) {
-        if let Some((one, other)) = two_streams(words.as_slice()) {
+    perform_asked(rt, threads, words.as_slice(), &asked)
+}
+
+// The same, once the words were read.
+fn perform_asked<R: Threads + Wait + Sync>(
+    rt: &HostRuntime,
+    threads: &R,
+    words: &[String],
+    asked: &Result<Command<'_>, WordsFault>,
+) -> Result<(), Ending> {
+    if may_name_paths(asked) {
+        if let Some((one, other)) = two_streams(words) {
             return Err(Ending::TwoStreams(one, other));
         }
     }
     match asked {
-        Ok(command) => perform_command(rt, threads, &command),
-        Err(fault) if fault.is_version() => commands::print_asked(rt, &fault),
-        Err(fault) if fault.is_help() && names_help(&words) => commands::print_asked(rt, &fault),
+        Ok(command) => perform_command(rt, threads, command),
+        Err(fault) if asks_for_text(fault, words) => commands::print_asked(rt, fault),
         Err(fault) => {
-            print_negative_workers(rt, words.as_slice());
-            Err(misused(rt, &fault))
+            print_negative_workers(rt, words);
+            Err(misused(rt, fault))
         }
     }
 }
@@ -188,8 +197,12 @@ fn for_programs(rt: &HostRuntime, done: Result<(), Ending>) -> Result<(), Ending
     done.map_err(Ending::without_words)
 }
 
-// Whether the word after the program's name is `help`.
-fn names_help(words: &Vec<String>) -> bool {
+// Whether the words ask for the version, or for the help by `help`, the word after the program's name.
+fn asks_for_text(fault: &WordsFault, words: &[String]) -> bool {
+    fault.is_version() || fault.is_help() && names_help(words)
+}
+
+fn names_help(words: &[String]) -> bool {
     match words.get(1) {
         Some(word) => word.as_str() == "help",
         None => false,

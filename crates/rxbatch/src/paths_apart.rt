@@ -28,12 +28,14 @@ impl Drop for KnownFiles {
 }
 
 impl KnownFiles {
-    /// None.
-    pub fn new(alloc: Global) -> KnownFiles {
-        KnownFiles {
-            labels: BTreeMap::new(alloc),
-            nodes: Vec::new(alloc),
-        }
+    /// The plans file, which was opened.
+    pub fn of_plans_file(rt: &HostRuntime, node: Node) -> Result<KnownFiles, Ending> {
+        let mut known = KnownFiles {
+            labels: BTreeMap::new(rt.alloc()),
+            nodes: Vec::new(rt.alloc()),
+        };
+        known.add_input(rt, String::from_str(rt.alloc(), "--plans")?, node)?;
+        Ok(known)
     }
 
     /// What the system says of those that were opened.

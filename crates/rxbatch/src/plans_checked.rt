@@ -1,11 +1,12 @@
 //! `check` for the plans of a plans file.
 use crate::check_files::{CheckedPaths, check_texts, unread};
 use crate::ending::Ending;
+use crate::nodes::Node;
 use crate::paths_apart::KnownFiles;
 use crate::plan_words::plan_head;
 use crate::plans_file::SwitchPlans;
 use crate::standard_output::print;
-use crate::switch_inputs::{PlanTexts, read_batch, refused_batch, refused_door};
+use crate::switch_inputs::{PlanAt, PlanTexts, ReadPlan, read_batch, refused_batch, refused_door};
 use rx_batch::read_batch as batch_of;
 use rx_check::Files;
 use rx_fields::Door;
@@ -18,6 +19,15 @@ use rx_switch::SwitchFault;
 struct CheckedPlans {
     known: KnownFiles,
     doors: Vec<Option<Door>>,
+}
+
+impl CheckedPlans {
+    // Before the first plan: the plans file is known, and there is room for this many plans.
+    fn new(rt: &HostRuntime, plans_file: Node, plans: usize) -> Result<CheckedPlans, Ending> {
+        let known = KnownFiles::of_plans_file(rt, plans_file)?;
+        let doors = Vec::with_capacity(rt.alloc(), plans)?;
+        Ok(CheckedPlans { known, doors })
+    }
 }
 
 // Written out, so that freeing one is one call wherever a function ends early, not one for each of its fields.
@@ -34,23 +44,28 @@ pub fn check(rt: &HostRuntime, plans: &str, batch: Option<&str>) -> Result<(), E
         Ok(plans) => plans,
         Err(ending) => return Err(unread(rt, ending)),
     };
-    let mut known = KnownFiles::new(rt.alloc());
-    known.add_input(rt, String::from_str(rt.alloc(), "--plans")?, node)?;
-    let mut checked = CheckedPlans {
-        known,
-        doors: Vec::with_capacity(rt.alloc(), plans.len())?,
-    };
-    let Some(path) = batch else {
-        return check_plans(rt, &plans, "", None, &mut checked);
-    };
+    let mut checked = CheckedPlans::new(rt, node, plans.len())?;
+    match batch {
+        Some(path) => check_with_batch(rt, &plans, path, &mut checked),
+        None => check_plans(rt, &plans, "", None, &mut checked),
+    }
+}
+
+// The same with a batch. The fault of one that isn't accepted comes after those of the plans.
+fn check_with_batch(
+    rt: &HostRuntime,
+    plans: &[PlanFiles],
+    path: &str,
+    checked: &mut CheckedPlans,
+) -> Result<(), Ending> {
     let text = match read_batch(rt, path, &mut checked.known) {
         Ok(text) => text,
         Err(ending) => return Err(unread(rt, ending)),
     };
-    match batch_of(rt.alloc(), &text) {
-        Ok(_) => check_plans(rt, &plans, path, Some(&text), &mut checked),
-        Err(fault) => {
-            let ended = check_plans(rt, &plans, "", None, &mut checked);
+    match batch_of(rt.alloc(), &text).err() {
+        None => check_plans(rt, plans, path, Some(&text), checked),
+        Some(fault) => {
+            let ended = check_plans(rt, plans, "", None, checked);
             let refused = refused_batch(rt, path, &text, "", 0, SwitchFault::from(fault));
             worse(ended, Err(unread(rt, refused)))
         }
@@ -92,7 +107,8 @@ fn check_plan(
     batch: Option<&[u8]>,
     checked: &mut CheckedPlans,
 ) -> Result<(), Ending> {
-    match PlanTexts::read(rt, plan, &mut checked.known) {
+    let number = checked.doors.len();
+    match PlanTexts::read(rt, PlanAt { number, plan }, &mut checked.known) {
         Ok(texts) => {
             checked.doors.push(door_of(rt, &texts.sheet))?;
             check_read(

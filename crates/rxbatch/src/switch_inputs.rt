@@ -16,6 +16,19 @@ use std::alloc::Global;
 use std::sync::Arc;
 use std::thread::Threads;
 
+/// A plan with its number, from 0.
+#[derive(Clone, Copy)]
+pub struct PlanAt<'a> {
+    pub number: usize,
+    pub plan: &'a PlanFiles,
+}
+
+/// What a command reads of a plan.
+pub trait ReadPlan {
+    /// The texts of a plan, whose files are known from then on.
+    fn read(rt: &HostRuntime, at: PlanAt<'_>, known: &mut KnownFiles) -> Result<Self, Ending>;
+}
+
 /// The texts of a plan.
 #[derive(Drop)]
 pub struct PlanTexts {
@@ -23,13 +36,9 @@ pub struct PlanTexts {
     pub books: Arc<Vec<u8>, Global>,
 }
 
-impl PlanTexts {
-    /// Those of a plan, whose files are known from then on.
-    pub fn read(
-        rt: &HostRuntime,
-        plan: &PlanFiles,
-        known: &mut KnownFiles,
-    ) -> Result<PlanTexts, Ending> {
+impl ReadPlan for PlanTexts {
+    fn read(rt: &HostRuntime, at: PlanAt<'_>, known: &mut KnownFiles) -> Result<Self, Ending> {
+        let plan = at.plan;
         let name = plan.name.as_str();
         let sheet = text_at(rt, name, "sheet", plan.sheet.as_str(), Device::Sheet, known)?;
         let books = text_at(rt, name, "books", plan.books.as_str(), Device::Books, known)?;
@@ -38,18 +47,21 @@ impl PlanTexts {
     }
 }
 
-/// The plans of a plans file, with their texts in the same order, and the batch. The files are known.
-pub struct SwitchInputs {
+/// The plans of a plans file, with what was read of each in the same order, and the batch. The files are known.
+pub struct PlansInputs<T> {
     pub plans: Vec<PlanFiles>,
-    pub texts: Vec<PlanTexts>,
+    pub texts: Vec<T>,
     pub batch: Vec<u8>,
     pub known: KnownFiles,
 }
 
+/// Those of a run of several plans.
+pub type SwitchInputs = PlansInputs<PlanTexts>;
+
 // Written out, so that freeing one is one call wherever a function ends early, not one for each of its fields.
-impl Drop for SwitchInputs {
+impl<T: Drop> Drop for PlansInputs<T> {
     fn drop(self) {
-        let SwitchInputs {
+        let PlansInputs {
             plans: _,
             texts: _,
             batch: _,
@@ -58,22 +70,23 @@ impl Drop for SwitchInputs {
     }
 }
 
-impl SwitchInputs {
-    /// Reads the plans file, plan by plan its sheet and its books, and the batch file.
-    pub fn read(rt: &HostRuntime, plans: &str, batch: &str) -> Result<SwitchInputs, Ending> {
+impl<T: ReadPlan + Drop> PlansInputs<T> {
+    /// Reads the plans file, plan by plan its files, and the batch file.
+    pub fn read(rt: &HostRuntime, plans: &str, batch: &str) -> Result<PlansInputs<T>, Ending> {
         let SwitchPlans { plans, node } = SwitchPlans::read(rt, plans)?;
-        let mut known = KnownFiles::new(rt.alloc());
-        known.add_input(rt, String::from_str(rt.alloc(), "--plans")?, node)?;
+        let mut known = KnownFiles::of_plans_file(rt, node)?;
         let texts = read_texts(rt, &plans, &mut known)?;
         let batch = read_batch(rt, batch, &mut known)?;
-        Ok(SwitchInputs {
+        Ok(PlansInputs {
             plans,
             texts,
             batch,
             known,
         })
     }
+}
 
+impl PlansInputs<PlanTexts> {
     /// The texts of the outputs. The path is that of the batch.
     pub fn route<R: Threads + Sync>(
         &self,
@@ -121,15 +134,16 @@ impl SwitchInputs {
     }
 }
 
-// Reads the sheet and the books of each plan, which are known from then on.
-fn read_texts(
+// Reads the files of each plan, which are known from then on.
+fn read_texts<T: ReadPlan + Drop>(
     rt: &HostRuntime,
     plans: &[PlanFiles],
     known: &mut KnownFiles,
-) -> Result<Vec<PlanTexts>, Ending> {
+) -> Result<Vec<T>, Ending> {
     let mut texts = Vec::with_capacity(rt.alloc(), plans.len())?;
     for plan in plans {
-        texts.push(PlanTexts::read(rt, plan, known)?)?;
+        let number = texts.len();
+        texts.push(T::read(rt, PlanAt { number, plan }, known)?)?;
     }
     Ok(texts)
 }

@@ -5,7 +5,7 @@ use crate::named::Named;
 use rx_io::Device;
 
 // The options that take a path.
-const OPTIONS: [Named; 10] = [
+const OPTIONS: &[Named] = &[
     Named::File(ProgramFile::Plans),
     Named::File(ProgramFile::Of(Device::Sheet)),
     Named::WithSheet,
@@ -24,8 +24,8 @@ pub fn two_streams(words: &[String]) -> Option<(Named, Named)> {
     for option in OPTIONS {
         if is_stream(words, option.text()) {
             match first {
-                None => first = Some(option),
-                Some(one) => return Some((one, option)),
+                None => first = Some(*option),
+                Some(one) => return Some((one, *option)),
             }
         }
     }

@@ -44,7 +44,7 @@ pub fn run<R: Threads + Wait + Sync>(
         Some(log) => add_line(rt, words, log, &run),
         None => Ok(()),
     };
-    run.into_done(words.manner.explains_refusal)?;
+    run.into_end().into_done(words.manner.explains_refusal)?;
     logged?;
     Ok(lines)
 }
@@ -52,12 +52,28 @@ pub fn run<R: Threads + Wait + Sync>(
 // The SHA-256 of an input that a thread of its own summed.
 type Digest = [u8; 32];
 
-// A run that was watched.
+// How a run ended.
 #[derive(Drop)]
-struct WatchedRun {
+struct RunEnd {
     done: Result<(), Ending>,
     // Why it isn't done, in words.
     fault: Option<String>,
+}
+
+impl RunEnd {
+    // In words where the refusal is explained.
+    fn into_done(self, explains_refusal: bool) -> Result<(), Ending> {
+        match (self.done, self.fault) {
+            (Err(ending), Some(line)) if explains_refusal => Err(ending.in_words(line)),
+            (done, _) => done,
+        }
+    }
+}
+
+// A run that was watched.
+#[derive(Drop)]
+struct WatchedRun {
+    end: RunEnd,
     traffic: RunTraffic,
     digests: Inputs<Option<Digest>>,
     // The reject codes in the response.
@@ -69,12 +85,8 @@ struct WatchedRun {
 }
 
 impl WatchedRun {
-    // How it ended: in words where the refusal is explained.
-    fn into_done(self, explains_refusal: bool) -> Result<(), Ending> {
-        match (self.done, self.fault) {
-            (Err(ending), Some(line)) if explains_refusal => Err(ending.in_words(line)),
-            (done, _) => done,
-        }
+    fn into_end(self) -> RunEnd {
+        self.end
     }
 }
 
@@ -90,29 +102,25 @@ fn watched<R: Threads + Wait + Sync>(
     // Only the log has the codes.
     let codes = Cell::new(words.log.map(|_| CodesPassed::new(rt.alloc())));
     let Passed {
-        done,
-        fault,
+        mut end,
         traffic,
         digests,
     } = match RunFiles::open(rt, words, log) {
         Ok(files) => on_files(rt, threads, words, files, &reporter, &codes),
         Err(ending) => Passed::nothing(ending),
     };
-    let fault = match (&done, fault) {
-        (Err(Ending::File(fault)), None) => file_words(rt, words, fault).ok(),
-        (Err(ending), None) => ending.words(rt.alloc()),
-        (_, fault) => fault,
-    };
+    if end.fault.is_none() {
+        end.fault = fault_of(rt, words, &end.done);
+    }
     let times = RunTimes {
         begin: reporter.begin(),
         end: rt.monotonic().ok(),
     };
-    if done.is_ok() {
+    if end.done.is_ok() {
         reporter.report_done(&traffic, times);
     }
     WatchedRun {
-        done,
-        fault,
+        end,
         traffic,
         digests,
         codes: codes.into_inner(),
@@ -122,12 +130,24 @@ fn watched<R: Threads + Wait + Sync>(
     }
 }
 
-// What became of the files of a run: how it ended, a refusal in words, what passed through them, and the sums of inputs that
+// Why a run isn't done, in words, where no input is refused.
+fn fault_of(
+    rt: &HostRuntime,
+    words: &RunSettings<'_>,
+    done: &Result<(), Ending>,
+) -> Option<String> {
+    match done {
+        Ok(()) => None,
+        Err(Ending::File(fault)) => file_words(rt, words, fault).ok(),
+        Err(ending) => ending.words(rt.alloc()),
+    }
+}
+
+// What became of the files of a run: how it ended, with a refusal in words, what passed through them, and the sums of inputs that
 // threads of their own made.
 #[derive(Drop)]
 struct Passed {
-    done: Result<(), Ending>,
-    fault: Option<String>,
+    end: RunEnd,
     traffic: RunTraffic,
     digests: Inputs<Option<Digest>>,
 }
@@ -136,8 +156,10 @@ impl Passed {
     // Of a run whose files couldn't be opened.
     fn nothing(ending: Ending) -> Passed {
         Passed {
-            done: Err(ending),
-            fault: None,
+            end: RunEnd {
+                done: Err(ending),
+                fault: None,
+            },
             traffic: RunTraffic::nothing(),
             digests: Inputs {
                 sheet: None,
@@ -219,8 +241,10 @@ fn on_files<R: Threads + Wait + Sync>(
     let fault = refusal_of(rt, words, &done, &read, &traffic.inputs);
     let done = done.map_err(|fault| Ending::of_run(fault, last.get()));
     Passed {
-        done: outputs.end(rt, done),
-        fault,
+        end: RunEnd {
+            done: outputs.end(rt, done),
+            fault,
+        },
         traffic,
         digests: Inputs {
             sheet: digest_of(threads, sheet_sum),
@@ -268,10 +292,10 @@ fn add_line(
 // The line of the log, with its line feed.
 fn line(rt: &HostRuntime, words: &RunSettings<'_>, run: &WatchedRun) -> Result<String, AllocError> {
     let alloc = rt.alloc();
-    let (status, refused, file) = end_of(&run.done);
+    let (status, refused, file) = end_of(&run.end.done);
     let (inputs, outputs) = (&run.traffic.inputs, &run.traffic.outputs);
     let lines = lines_passed(&outputs.books);
-    let warning = warning_of(rt, words, &run.done, lines);
+    let warning = warning_of(rt, words, &run.end.done, lines);
     let host = host_name(rt);
     let codes = given_codes(alloc, run);
     let read = sums_read(alloc, run);
@@ -286,7 +310,7 @@ fn line(rt: &HostRuntime, words: &RunSettings<'_>, run: &WatchedRun) -> Result<S
         status,
         refused,
         file,
-        fault: text_of(&run.fault),
+        fault: text_of(&run.end.fault),
         warning: text_of(&warning),
         records: details_passed(&inputs.batch),
         end_books_lines: lines,
