@@ -5,10 +5,10 @@ use Rattle.std.specs.List.{flat_map}
 use Rattle.std.specs.Vec.{vec_items}
 use Rattle.std.specs.declared.vec.Vec.{Vec}
 use Rattle.std.proofs.lemmas.Grind.{flat_map-append}
-use Rattle.std.proofs.lemmas.List.{append-nil, drop_more, length-append, length-drop, take-append-drop, take-append-le, take_all}
+use Rattle.std.proofs.lemmas.List.{append-nil, drop_more, length-append, length-drop, length-take, length-take-le, take-append-drop, take-append-le, take_all}
 use Rattle.std.proofs.Math.Seq.{take-add, take-append-add}
 use Rattle.std.specs.Io.KnownBytes.{Appends, Consumes, IsAtEnd}
-use Rattle.rx_io.specs.Reading.{AreFewReads, IsFrontOf, IsWhole, PassesAll, PassesFront, PassesPiece, TakesNothing}
+use Rattle.rx_io.specs.Reading.{AreFewReads, IsFrontOf, IsRead, IsWhole, PassesAll, PassesFront, PassesPiece, TakesNothing}
 use Rattle.rx_io.specs.Reading.{most_bytes, most_reads}
 use Rattle.rx_io.specs.Writing.{AppendsFront}
 
@@ -38,6 +38,19 @@ Consumes-whole None rest bytes p end = tt
 Consumes-whole (Some first) None bytes p end = absurd p
 Consumes-whole (Some first) (Some second) bytes p end = (sym (p ∙ ap (λ l. bytes ++ l) end ∙ append-nil bytes), ap Some end)
 
+-- the piece that ends the input is empty, so the text is what was read before
+pub IsRead-end : (left between rest : Option (List ℕ)) (old new : List ℕ) (n count : ℕ) → take n new ≡ take n old
+    → Consumes left between (take n old) → Consumes between rest (take count (drop n new)) → count ≡ 0 → IsAtEnd rest
+    → n ≤ most_bytes → IsRead left rest (take n new)
+IsRead-end left between rest old new n count same p q none end few =
+    let all = Consumes-after left between rest old new n count same p q in
+    let no_more : n + count ≡ n = omega (arith, none) in
+    let whole = subst (λ k. Consumes left rest (take k new)) no_more all in
+    record {
+      whole = Consumes-whole left rest (take n new) whole end;
+      within = (let len = length-take n new in omega arith);
+    }
+
 -- what was read was there
 pub Consumes-long : (left rest : Option (List ℕ)) (bytes : List ℕ) → Consumes left rest bytes
     → most_reads ≤ length bytes → IfSome left (λ all. most_reads ≤ length all)
@@ -51,6 +64,13 @@ pub Consumes-over : (left rest : Option (List ℕ)) (bytes : List ℕ) → Consu
 Consumes-over None rest bytes p over = tt
 Consumes-over (Some first) None bytes p over = absurd p
 Consumes-over (Some first) (Some second) bytes p over = let sum = ap length p ∙ length-append bytes second in omega arith
+
+-- with more to come after the text than an input may have, the input is long
+pub Consumes-long_after : (left rest : Option (List ℕ)) (text : List ℕ) (n : ℕ) → n ≤ length text
+    → Consumes left rest (take n text) → IfSome rest (λ more. most_bytes < n + length more)
+    → IfSome left (λ all. most_reads ≤ length all)
+Consumes-long_after left rest text n within p over = Consumes-over left rest (take n text) p
+    (subst (λ k. IfSome rest (λ more. most_bytes < k + length more)) (sym (length-take-le n text within)) over)
 
 -- nothing passed yet
 pub PassesPiece-nothing : (left : Option (List ℕ)) (before : List ℕ → Type 0) → PassesPiece left left before before 0

@@ -1,7 +1,8 @@
-use Rattle.std.proofs.Common.{take, ◌+◌, ap, sym, subst, ◌∙◌, arith, rules}
+use Rattle.std.proofs.Common.{◌≤◌, ◌+◌, Err, length, length-take-le, take, ap, sym, subst, ◌∙◌, arith, rules}
 use Rattle.std.proofs.lemmas.List.{with_items_is, places}
 use Rattle.std.specs.Io.KnownBytes.{Consumes}
-use Rattle.rx_io.proofs.Passing.{Consumes-after}
+use Rattle.rx_io.specs.Reading.{IsRead}
+use Rattle.rx_io.proofs.Passing.{Consumes-after, Consumes-long, Consumes-long_after, IsRead-end}
 use Rattle.rx_io.proofs.reading.fill.Goals as goal
 
 -- The piece was read after the front that was read before.
@@ -23,3 +24,32 @@ by_room-preserved g c =
       omega (arith, kept.5, read.reads),
       λ h. read.cramped (kept.6 h),
     )
+
+-- The last piece is empty, so the text is what was read before it.
+pub returns-then-count-eq0-clause-ok : goal.returns-then-count-eq0-clause-ok
+returns-then-count-eq0-clause-ok g c =
+    let kept = c.by_room.invariant in
+    let read = c.in_ok-count.ensures in
+    let left = g.S.Source.left c.args.source.now in
+    let rest = g.S.Source.left c.read_after.new.source in
+    let items = with_items_is c.make_room.new.text c.read_after.new.text (search (rules, places)) in
+    let front = rw (c.as_mut_slice.ensures.value, c.make_room.ensures.front) at read.front in
+    subst (λ text. IsRead left rest (take c.by_room.len text)) (sym items)
+        (IsRead-end _ _ _ _ c.read_after.new.text c.by_room.len c.in_ok-count.count front kept.0 read.piece
+            c.if-count-eq0.true (read.end c.if-count-eq0.true) kept.3)
+
+-- What was to come after the text was too long, and so is the input.
+pub returns-in_err-count-clause-long : goal.returns-in_err-count-clause-long
+returns-in_err-count-clause-long g c = λ e.
+    let kept = c.by_room.invariant in
+    let told = rw e at c.from_residual-in_err-count.ensures in
+    let within : c.by_room.len ≤ length c.by_room.text.items = omega (arith, kept.4, c.by_room.text.ok) in
+    Consumes-long_after _ _ _ c.by_room.len within kept.0 (c.in_err-count.ensures.long (ap Err (sym told.1)))
+
+-- At least a byte a read was read.
+pub returns-clause-long : goal.returns-clause-long
+returns-clause-long g c = λ e.
+    let kept = c.by_room.invariant in
+    let within : c.by_room.len ≤ length c.by_room.text.items = omega (arith, kept.4, c.by_room.text.ok) in
+    let len = length-take-le c.by_room.len c.by_room.text.items within in
+    Consumes-long _ _ _ kept.0 (omega (arith, kept.2, c.by_room-test.false))
