@@ -5,7 +5,7 @@ use Rattle.std.specs.List.{flat_map}
 use Rattle.std.specs.Vec.{vec_items}
 use Rattle.std.specs.declared.vec.Vec.{Vec}
 use Rattle.std.proofs.lemmas.Grind.{flat_map-append}
-use Rattle.std.proofs.lemmas.List.{append-nil, drop_more, length-append, length-drop, length-take, length-take-le, take-append-drop, take-append-le, take_all}
+use Rattle.std.proofs.lemmas.List.{append-nil, drop_more, length-append, length-drop, length-take, length-take-le, take-append-drop, take-append-le, take_all, take_more}
 use Rattle.std.proofs.Math.Seq.{take-add, take-append-add}
 use Rattle.std.specs.Io.KnownBytes.{Appends, Consumes, IsAtEnd}
 use Rattle.rx_io.specs.Reading.{AreFewReads, IsFrontOf, IsRead, IsWhole, PassesAll, PassesFront, PassesPiece, TakesNothing}
@@ -180,6 +180,22 @@ pieces-at pieces i piece within is =
     drop_more pieces i piece within ∙ ap (λ x. x ∷ drop (i + 1) pieces) (sym is) in
     ap (flat_map vec_items) (sym (take-append-drop i pieces)) ∙ flat_map-append vec_items (take i pieces) (drop i pieces)
     ∙ ap (λ l. flat_map vec_items (take i pieces) ++ flat_map vec_items l) on
+
+-- one more of them
+pub pieces-more : {Z : Type 0} (pieces : List (Vec ℕ Z)) (i : ℕ) (piece : Vec ℕ Z) → i < length pieces → piece ≡ get_or pieces i piece
+    → flat_map vec_items (take (i + 1) pieces) ≡ flat_map vec_items (take i pieces) ++ piece.items
+pieces-more pieces i piece within is =
+    ap (flat_map vec_items) (take_more pieces i piece within ∙ ap (λ x. take i pieces ++ x ∷ []) (sym is))
+    ∙ flat_map-append vec_items (take i pieces) (piece ∷ [])
+    ∙ ap (λ l. flat_map vec_items (take i pieces) ++ l) (append-nil piece.items)
+
+-- a whole text is a front of it
+pub AppendsFront-whole : (before after : Option (List ℕ)) (text : List ℕ) → Appends before after text → AppendsFront before after text
+AppendsFront-whole before after text whole = record {
+  count = length text;
+  within = omega arith;
+  appended = subst (Appends before after) (sym (take_all (length text) text (omega arith))) whole;
+}
 
 -- of the piece after what was written a front was written, and so of the whole
 pub AppendsFront-on : (before between after : Option (List ℕ)) (front piece rest : List ℕ) → Appends before between front

@@ -89,6 +89,15 @@ pub pieces_all : (lender own : List ℕ) (ps : List Piece) (begun i : ℕ) → l
 pieces_all lender own ps begun i all =
     ap₂ (λ (a b : List ℕ). a ++ b) (ap (pieces_text lender own) (take_all i ps all)) (take_rest own begun)
 
+-- no byte was written yet
+pub none_written : (written : Option (List ℕ)) (text : List ℕ) → AppendsFront written written text
+none_written written text = record { count = 0; within = omega arith; appended = Appends-nothing written }
+
+-- a front of a text was written, and none of what follows
+pub front_before : (before after : Option (List ℕ)) (first second : List ℕ) → AppendsFront before after first
+    → AppendsFront before after (first ++ second)
+front_before before after first second one = AppendsFront-on before before after [] first second (Appends-nothing before) one
+
 -- a text was written, and then a front of another
 pub front_behind : (before between after : Option (List ℕ)) (first second : List ℕ) → Appends before between first
     → AppendsFront between after second → AppendsFront before after (first ++ second)

@@ -1,6 +1,6 @@
 use Rattle.std.proofs.Common.{refl}
 use Rattle.std.specs.Io.KnownBytes.{Appends}
-use Rattle.rx_io.proofs.Patching.{Gathers-written, front_behind, on_ok}
+use Rattle.rx_io.proofs.Patching.{Gathers-more, Gathers-written, front_before, front_behind, none_written, on_ok}
 use Rattle.rx_io.proofs.gathering.put_gathered.Goals as goal
 
 pub returns-clause-whole : goal.returns-clause-whole
@@ -22,3 +22,14 @@ returns-clause-front g c =
     let after = g.S.Sink.written c.write_all.new.sink in
     let whole = rw (c.if-gather.ensures.same refl) at c.in_ok-write_gathered.ensures.whole in
     front_behind before between after c.args.gathered.now.items c.args.piece.now whole c.write_all.ensures.front
+
+pub returns-then-gather-clause-whole : goal.returns-then-gather-clause-whole
+returns-then-gather-clause-whole g c = Gathers-more _ c.args.gathered.now.items _ _ (c.if-gather.ensures.more refl)
+
+pub returns-then-gather-clause-front : goal.returns-then-gather-clause-front
+returns-then-gather-clause-front g c = none_written _ _
+
+pub returns-in_err-write_gathered-clause-front : goal.returns-in_err-write_gathered-clause-front
+returns-in_err-write_gathered-clause-front g c =
+    let front = rw (c.if-gather.ensures.same refl) at c.in_err-write_gathered.ensures.front in
+    front_before _ _ c.args.gathered.now.items c.args.piece.now front

@@ -35,8 +35,8 @@ returns-then-count-eq0-clause-ok g c =
     let items = with_items_is c.make_room.new.text c.read_after.new.text (search (rules, places)) in
     let front = rw (c.as_mut_slice.ensures.value, c.make_room.ensures.front) at read.front in
     subst (λ text. IsRead left rest (take c.by_room.len text)) (sym items)
-        (IsRead-end _ _ _ _ c.read_after.new.text c.by_room.len c.in_ok-count.count front kept.0 read.piece
-            c.if-count-eq0.true (read.end c.if-count-eq0.true) kept.3)
+    (IsRead-end _ _ _ _ c.read_after.new.text c.by_room.len c.in_ok-count.count front kept.0 read.piece
+    c.if-count-eq0.true (read.end c.if-count-eq0.true) kept.3)
 
 -- What was to come after the text was too long, and so is the input.
 pub returns-in_err-count-clause-long : goal.returns-in_err-count-clause-long

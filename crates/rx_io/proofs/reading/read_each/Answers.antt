@@ -1,6 +1,6 @@
-use Rattle.std.proofs.Common.{arith, Result, Ok, Err}
+use Rattle.std.proofs.Common.{ap, sym, arith, Result, Ok, Err}
 use Rattle.std.specs.Prelude.{OnErr}
-use Rattle.rx_io.proofs.Passing.{PassesPiece-on, PassesPiece-all, PassesPiece-front}
+use Rattle.rx_io.proofs.Passing.{PassesFront-nothing, PassesPiece-all, PassesPiece-front, PassesPiece-long, PassesPiece-nothing, PassesPiece-on, PassesPiece-over}
 use Rattle.rx_io.proofs.reading.read_each.Goals as goal
 
 -- what holds after an error
@@ -39,3 +39,22 @@ returns-in_err-count-clause-front g c =
 
 pub returns-clause-front : goal.returns-clause-front
 returns-clause-front g c = PassesPiece-front _ _ _ _ _ _ c.by_piece.invariant.0 (λ text h. h)
+
+-- What was to come after the pieces was too long, and so is the input.
+pub returns-in_err-count-clause-long : goal.returns-in_err-count-clause-long
+returns-in_err-count-clause-long g c = λ e.
+    let told = rw e at c.from_residual-in_err-count.ensures in
+    PassesPiece-over _ _ _ _ c.by_piece.total c.by_piece.invariant.0 (c.in_err-count.ensures.long (ap Err (sym told.1)))
+
+-- At least a byte a read went on.
+pub returns-clause-long : goal.returns-clause-long
+returns-clause-long g c = λ e.
+    let kept = c.by_piece.invariant in
+    PassesPiece-long _ _ _ _ c.by_piece.total kept.0 (omega (arith, kept.2, c.by_piece-test.false))
+
+pub by_piece-init : goal.by_piece-init
+by_piece-init g c =
+    (PassesPiece-nothing _ _, c.requires, omega arith, omega arith, c.in_ok-room.ensures, omega arith, λ h. h)
+
+pub returns-in_err-room-clause-front : goal.returns-in_err-room-clause-front
+returns-in_err-room-clause-front g c = after_error _ (PassesFront-nothing _ _)
