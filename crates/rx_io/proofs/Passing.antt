@@ -5,7 +5,8 @@ use Rattle.std.specs.List.{flat_map}
 use Rattle.std.specs.Vec.{vec_items}
 use Rattle.std.specs.declared.vec.Vec.{Vec}
 use Rattle.std.proofs.lemmas.Grind.{flat_map-append}
-use Rattle.std.proofs.lemmas.List.{append-nil, drop_more, length-append, length-drop, length-take, length-take-le, take-append-drop, take-append-le, take_all, take_more}
+use Rattle.std.proofs.lemmas.List.{append-nil, drop_more, length-append, length-drop, length-take, length-take-le}
+use Rattle.std.proofs.lemmas.List.{take-append-drop, take-append-le, take_all, take_more}
 use Rattle.std.proofs.Math.Seq.{take-add, take-append-add}
 use Rattle.std.specs.Io.KnownBytes.{Appends, Consumes, IsAtEnd}
 use Rattle.rx_io.specs.Reading.{AreFewReads, IsFrontOf, IsRead, IsWhole, PassesAll, PassesFront, PassesPiece, TakesNothing}
@@ -190,7 +191,8 @@ pieces-more pieces i piece within is =
     ∙ ap (λ l. flat_map vec_items (take i pieces) ++ l) (append-nil piece.items)
 
 -- a whole text is a front of it
-pub AppendsFront-whole : (before after : Option (List ℕ)) (text : List ℕ) → Appends before after text → AppendsFront before after text
+pub AppendsFront-whole : (before after : Option (List ℕ)) (text : List ℕ) → Appends before after text
+    → AppendsFront before after text
 AppendsFront-whole before after text whole = record {
   count = length text;
   within = omega arith;

@@ -2,7 +2,7 @@ use Rattle.std.proofs.Common.{◌≤◌, ◌+◌, Err, length, length-take-le, t
 use Rattle.std.proofs.lemmas.List.{with_items_is, places}
 use Rattle.std.specs.Io.KnownBytes.{Consumes}
 use Rattle.rx_io.specs.Reading.{IsRead}
-use Rattle.rx_io.proofs.Passing.{Consumes-after, Consumes-long, Consumes-long_after, IsRead-end}
+use Rattle.rx_io.proofs.Passing.{Consumes-after, Consumes-long, Consumes-nothing, Consumes-long_after, IsRead-end}
 use Rattle.rx_io.proofs.reading.fill.Goals as goal
 
 -- The piece was read after the front that was read before.
@@ -53,3 +53,32 @@ returns-clause-long g c = λ e.
     let within : c.by_room.len ≤ length c.by_room.text.items = omega (arith, kept.4, c.by_room.text.ok) in
     let len = length-take-le c.by_room.len c.by_room.text.items within in
     Consumes-long _ _ _ kept.0 (omega (arith, kept.2, c.by_room-test.false))
+
+pub returns-in_err-count-clause-reads : goal.returns-in_err-count-clause-reads
+returns-in_err-count-clause-reads g c =
+    let kept = c.by_room.invariant in
+    let read = c.in_err-count.ensures in
+    record { few = omega (arith, kept.5, read.reads, c.by_room-test.true); roomy = λ h. read.cramped (kept.6 h) }
+
+pub returns-in_err-make_room-clause-long : goal.returns-in_err-make_room-clause-long
+returns-in_err-make_room-clause-long g c = λ e. let told = rw e at c.from_residual.ensures in absurd (cc told.1)
+
+pub by_room-init : goal.by_room-init
+by_room-init g c =
+    (Consumes-nothing _, c.requires, omega arith, omega arith, omega arith, omega arith, λ h. h)
+
+pub returns-in_err-make_room-clause-reads : goal.returns-in_err-make_room-clause-reads
+returns-in_err-make_room-clause-reads g c =
+    let kept = c.by_room.invariant in
+    record { few = omega (arith, kept.5, c.by_room.auto.counter-end); roomy = kept.6 }
+
+pub returns-then-count-eq0-clause-reads : goal.returns-then-count-eq0-clause-reads
+returns-then-count-eq0-clause-reads g c =
+    let kept = c.by_room.invariant in
+    let read = c.in_ok-count.ensures in
+    record { few = omega (arith, kept.5, read.reads, c.by_room-test.true); roomy = λ h. read.cramped (kept.6 h) }
+
+pub returns-clause-reads : goal.returns-clause-reads
+returns-clause-reads g c =
+    let kept = c.by_room.invariant in
+    record { few = omega (arith, kept.5, c.by_room.auto.counter-end); roomy = kept.6 }

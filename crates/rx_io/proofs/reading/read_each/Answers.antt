@@ -1,6 +1,7 @@
 use Rattle.std.proofs.Common.{ap, sym, arith, Result, Ok, Err}
 use Rattle.std.specs.Prelude.{OnErr}
-use Rattle.rx_io.proofs.Passing.{PassesFront-nothing, PassesPiece-all, PassesPiece-front, PassesPiece-long, PassesPiece-nothing, PassesPiece-on, PassesPiece-over}
+use Rattle.rx_io.proofs.Passing.{PassesFront-nothing, PassesPiece-all, PassesPiece-front, PassesPiece-long, PassesPiece-nothing}
+use Rattle.rx_io.proofs.Passing.{PassesPiece-on, PassesPiece-over}
 use Rattle.rx_io.proofs.reading.read_each.Goals as goal
 
 -- what holds after an error
@@ -58,3 +59,20 @@ by_piece-init g c =
 
 pub returns-in_err-room-clause-front : goal.returns-in_err-room-clause-front
 returns-in_err-room-clause-front g c = after_error _ (PassesFront-nothing _ _)
+
+pub returns-in_err-count-clause-reads : goal.returns-in_err-count-clause-reads
+returns-in_err-count-clause-reads g c =
+    let kept = c.by_piece.invariant in
+    let read = c.in_err-count.ensures in
+    record { few = omega (arith, kept.5, read.reads, c.by_piece-test.true); roomy = λ h. read.cramped (kept.6 h) }
+
+pub returns-then-count-eq0-clause-reads : goal.returns-then-count-eq0-clause-reads
+returns-then-count-eq0-clause-reads g c =
+    let kept = c.by_piece.invariant in
+    let read = c.in_ok-count.ensures in
+    record { few = omega (arith, kept.5, read.reads, c.by_piece-test.true); roomy = λ h. read.cramped (kept.6 h) }
+
+pub returns-clause-reads : goal.returns-clause-reads
+returns-clause-reads g c =
+    let kept = c.by_piece.invariant in
+    record { few = omega (arith, kept.5, c.by_piece.auto.counter-end); roomy = kept.6 }
