@@ -1,5 +1,6 @@
 -- How many bytes lines have.
-use Rattle.std.proofs.Common.{◌≡◌, ℕ, ◌+◌, ◌-◌, List, [], ◌∷◌, ◌++◌, length, refl, sym, ap, ap₂, ◌∙◌, arith, append-nil, length-append}
+use Rattle.std.proofs.Common.{◌≡◌, ℕ, ◌+◌, ◌-◌, ◌≤◌, List, [], ◌∷◌, ◌++◌, length}
+use Rattle.std.proofs.Common.{refl, sym, ap, ap₂, ◌∙◌, arith, append-nil, length-append}
 use Rattle.std.specs.List.{All, AllZip}
 use Rattle.std.proofs.lemmas.Grind.{flat_map-append}
 use Rattle.std.proofs.lemmas.List.{map-append}
@@ -61,6 +62,10 @@ long_more v ms ns ds es m n rows more ls ks same first second =
 pub head_length : (text lines : List ℕ) (h : Head) → text ≡ ended (head_text h) ++ lines
     → length text - length lines ≡ length (ended (head_text h))
 head_length text lines h whole = omega (arith, ap length whole, length-append (ended (head_text h)) lines)
+
+-- no more bytes stand after the head line than in all
+pub head_before : (text lines : List ℕ) (h : Head) → text ≡ ended (head_text h) ++ lines → length lines ≤ length text
+head_before text lines h whole = omega (arith, ap length whole, length-append (ended (head_text h)) lines)
 
 -- what holds of all holds of those before the last, and of the last
 pub all_before : {A : Type 0} (P : A → Type 0) (xs : List A) (x : A) → All P (xs ++ x ∷ []) → All P xs

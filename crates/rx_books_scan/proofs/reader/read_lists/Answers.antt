@@ -6,8 +6,11 @@ use Rattle.rx_books_scan.specs.Lists.{AreLists, BeginWith}
 use Rattle.rx_books_scan.specs.Parts.{printed_lists, IsMadeOf, IsPartMeasured, part_lines}
 use Rattle.rx_books_scan.proofs.Begins.{begin_alone, if_some}
 use Rattle.rx_books_scan.proofs.Counted.{are_lists}
-use Rattle.rx_books_scan.proofs.Lengths.{head_length}
+use Rattle.rx_books_scan.proofs.Lengths.{head_before, head_length}
 use Rattle.rx_books_scan.proofs.reader.read_lists.Goals as goal
+
+pub overflow_sub-text : goal.overflow_sub-text
+overflow_sub-text c = head_before c.args.text.now c.in-Some.lines.now c.in-Some.head c.in-Some.ensures.1
 
 pub lists_of-requires-clause-head : goal.lists_of-requires-clause-head
 lists_of-requires-clause-head c =
@@ -32,3 +35,6 @@ returns-clause-lists c =
     (begin_alone head.version lines (part_lines part) c.in_ok-part.ensures.lines) in
     if_some c.lists_of.result (IsMadeOf head parts) (λ lists. AreLists text (printed_lists lists)) c.lists_of.ensures.made
     (λ l made. are_lists text lines head parts l c.in-Some.ensures.0 c.in-Some.ensures.1 front made)
+
+pub returns-clause-measured : goal.returns-clause-measured
+returns-clause-measured c = c.lists_of.ensures.measured

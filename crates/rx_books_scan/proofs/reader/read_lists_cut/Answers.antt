@@ -4,8 +4,11 @@ use Rattle.rx_books_scan.specs.Lists.{AreLists, BeginWith}
 use Rattle.rx_books_scan.specs.Parts.{printed_lists, IsMadeOf, part_lines}
 use Rattle.rx_books_scan.proofs.Begins.{begin_pieces, if_some}
 use Rattle.rx_books_scan.proofs.Counted.{are_lists}
-use Rattle.rx_books_scan.proofs.Lengths.{head_length, part_fronts, part_lengths}
+use Rattle.rx_books_scan.proofs.Lengths.{head_before, head_length, part_fronts, part_lengths}
 use Rattle.rx_books_scan.proofs.reader.read_lists_cut.Goals as goal
+
+pub overflow_sub-text : goal.overflow_sub-text
+overflow_sub-text g c = head_before c.args.text.now c.in-Some.lines.now c.in-Some.head c.in-Some.ensures.1
 
 pub lists_of-requires-clause-head : goal.lists_of-requires-clause-head
 lists_of-requires-clause-head g c =
@@ -28,3 +31,6 @@ returns-clause-lists g c =
     (part_fronts head.version (λ piece. piece.now) c.in_ok-pieces.pieces.items parts each)) in
     if_some c.lists_of.result (IsMadeOf head parts) (λ lists. AreLists text (printed_lists lists)) c.lists_of.ensures.made
     (λ l made. are_lists text lines head parts l c.in-Some.ensures.0 c.in-Some.ensures.1 front made)
+
+pub returns-clause-measured : goal.returns-clause-measured
+returns-clause-measured g c = c.lists_of.ensures.measured
