@@ -1,4 +1,5 @@
 -- Plumbing: which files there are.
+pub mod FaultyParts
 pub mod FirstFaults
 pub mod KnownNames
 pub mod Lacking

@@ -4,6 +4,7 @@ pub mod BooksFields
 pub mod BooksMembers
 pub mod BooksTexts
 pub mod BooksTotals
+pub mod FaultyParts
 pub mod KnownKeys
 pub mod Likeness
 pub mod Lines

@@ -1,4 +1,4 @@
-ghost use Rattle.std.specs.Prelude.{◌≡◌, ◌==◌, ◌≤◌, IfOk, count_by, find, length, option_copied, string_bytes, sum_by};
+ghost use Rattle.std.specs.Prelude.{◌≡◌, ◌==◌, ◌++◌, ◌≤◌, IfOk, count_by, find, length, option_copied, string_bytes, sum_by};
 ghost use Rattle.rx_books_text.specs.Printed.{total_family};
 ghost use Rattle.std.specs.List.{list_any};
 ghost use Rattle.rx_fields.specs.Numbered.{is_within};
@@ -24,13 +24,19 @@ use std::alloc::{AllocError, Global};
 pub(crate) fn totals_words(alloc: Global, text: &[u8], number: u64) -> Result<String, Memory>
     ensures { IfOk result (λ said. string_bytes said ≡ totals_text text.now number) }
 {
-    let printed = match read_printed(alloc, text) {
-        Ok(printed) => printed,
-        Err(BooksFault::Memory) => return Err(Memory),
-        Err(_) => return Ok(said(alloc, "a figure isn't the sum over the claims")?),
-    };
-    let mut said = figure_words(alloc, &printed, number)?;
-    said.push_str(head_doubt(&printed))?;
+    match read_printed(alloc, text) {
+        Ok(printed) => printed_words(alloc, &printed, number),
+        Err(BooksFault::Memory) => Err(Memory),
+        Err(_) => Ok(said(alloc, "a figure isn't the sum over the claims")?),
+    }
+}
+
+// What is said of the line of this number and of the head line, where the file is read.
+fn printed_words(alloc: Global, printed: &Printed, number: u64) -> Result<String, Memory>
+    ensures { IfOk result (λ said. string_bytes said ≡ figure_text printed.now number ++ head_doubt printed.now) }
+{
+    let mut said = figure_words(alloc, printed, number)?;
+    said.push_str(head_doubt(printed))?;
     Ok(said)
 }
 
@@ -59,7 +65,7 @@ fn has_within(period: Period, rows: &[Row]) -> bool
     rows.iter().any(|row| period.contains(row.key.date))
 }
 
-// What is said of the line of this number, where the file is read.
+// What is said of the line of this number.
 #[tactic(auto, unfolding(crate::specs::BooksTotals::figure_text))]
 fn figure_words(alloc: Global, printed: &Printed, number: u64) -> Result<String, AllocError>
     ensures { IfOk result (λ said. string_bytes said ≡ figure_text printed.now number) }

@@ -12,12 +12,13 @@ ghost use Rattle.rx_diagnostics.specs.SheetDrugs.{lacking_key_text, lacking_text
 ghost use Rattle.rx_diagnostics.specs.SheetDrugs.{no_percent_text, no_table_text, product_text, said_of, table_under};
 ghost use Rattle.rx_diagnostics.specs.SheetDrugs.{first_unknown, like_text, others_text, tiers_text};
 ghost use Rattle.rx_diagnostics.specs.SheetDrugs.{unknown_said, unknown_tier_text};
+ghost use Rattle.rx_diagnostics.specs.FaultyParts.{expected_of, owner_of, part_of};
 ghost use Rattle.rx_diagnostics.specs.SheetEntries.{entry_of, wrong_in};
 ghost use Rattle.rx_diagnostics.specs.SheetValues.{TellsOf, first_wrong, is_product, is_tier, lacks, of_drug, unless};
 
 use crate::likeness::nearest;
 use crate::quoting::{quoted, said};
-use crate::sheet_keys::{expected_at, key_words, name_of, wrong_key};
+use crate::sheet_keys::{cents_expected, expected_at, key_words, name_of, wrong_key};
 use crate::sheet_names::{names_in, names_words};
 use crate::sheet_values::{found, is_number, shown_value, table_at};
 use rx_fields::MOST_CENTS;
@@ -225,27 +226,53 @@ fn value_said(
     said_of(alloc, faulty, name, &shown)
 }
 
-#[tactic(auto, using(std::proofs::Common::append_assoc), unfolding(crate::specs::SheetDrugs::said_of))]
+#[tactic(auto, using(std::proofs::Common::append_assoc, crate::proofs::FaultyParts::said_parts))]
 fn said_of(alloc: Global, faulty: Faulty, name: &str, shown: &str) -> Result<String, AllocError>
     ensures { IfOk result (λ said. string_bytes said ≡ said_of faulty name.now shown.now) }
 {
-    match faulty {
-        Faulty::Cents => format!(in alloc;
-            "tier {name} = {shown}: expected whole cents from 0 to {MOST_CENTS}, e.g. 1000, or {{ percent = 20 }}"
-        ),
-        Faulty::Percent => format!(in alloc;
-            "tier {name}: percent = {shown}: expected a whole number from 0 to 100, e.g. 20"
-        ),
-        Faulty::Drug => format!(in alloc;
-            "drug {name} = {shown}: expected a table with tier and price"
-        ),
-        Faulty::Tier => format!(in alloc;
-            "drug {name}: tier = {shown}: expected the name of a tier in quotes, e.g. \"1\""
-        ),
-        Faulty::Price => {
-            let expected = expected_at(alloc, SheetKey::Price)?;
-            format!(in alloc; "drug {name}: price = {shown}: {expected}")
+    let owner = faulty.owner();
+    let part = faulty.part();
+    let expected = faulty.expected(alloc)?;
+    format!(in alloc; "{owner} {name}{part} = {shown}: {expected}")
+}
+
+impl Faulty {
+    // What has the value.
+    fn owner(self) -> &'static str
+        ensures { result.now ≡ owner_of self }
+    {
+        match self {
+            Faulty::Cents | Faulty::Percent => "tier",
+            Faulty::Drug | Faulty::Tier | Faulty::Price => "drug",
         }
+    }
+
+    // The key at which it stands there, if it does.
+    fn part(self) -> &'static str
+        ensures { result.now ≡ part_of self }
+    {
+        match self {
+            Faulty::Cents | Faulty::Drug => "",
+            Faulty::Percent => ": percent",
+            Faulty::Tier => ": tier",
+            Faulty::Price => ": price",
+        }
+    }
+
+    // What is expected in its place.
+    fn expected(self, alloc: Global) -> Result<String, AllocError>
+        ensures { IfOk result (λ expected. string_bytes expected ≡ expected_of self) }
+    {
+        let expected = match self {
+            Faulty::Cents => {
+                return cents_expected(alloc, MOST_CENTS, "1000, or { percent = 20 }");
+            }
+            Faulty::Percent => "expected a whole number from 0 to 100, e.g. 20",
+            Faulty::Drug => "expected a table with tier and price",
+            Faulty::Tier => "expected the name of a tier in quotes, e.g. \"1\"",
+            Faulty::Price => return expected_at(alloc, SheetKey::Price),
+        };
+        said(alloc, expected)
     }
 }
 

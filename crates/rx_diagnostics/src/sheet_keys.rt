@@ -79,9 +79,9 @@ pub(crate) fn expected_at(alloc: Global, key: SheetKey) -> Result<String, AllocE
     said(alloc, expected)
 }
 
-// An amount up to a limit, as this one.
+/// An amount up to a limit, as this one.
 #[tactic(auto, using(std::proofs::Common::append_assoc))]
-fn cents_expected(alloc: Global, most: u64, example: &str) -> Result<String, AllocError>
+pub(crate) fn cents_expected(alloc: Global, most: u64, example: &str) -> Result<String, AllocError>
     ensures { IfOk result (λ expected. string_bytes expected ≡ cents_expected most example.now) }
 {
     format!(in alloc; "expected whole cents from 0 to {most}, e.g. {example}")

@@ -53,7 +53,6 @@ fn line_in(alloc: Global, lines: &[&[u8]], at: At<'_>) -> Result<Option<u64>, Al
 }
 
 // The line of a key of an entry.
-#[tactic(auto, using(std::proofs::Common::append_assoc))]
 fn part_line(
     alloc: Global,
     lines: &[&[u8]],
@@ -63,8 +62,7 @@ fn part_line(
 ) -> Result<Option<u64>, AllocError>
     ensures { IfOk result (λ line. line ≡ line_naming (dotted (key.now ∷ name.now ∷ table.now ∷ [])) (map (λ l. l.now) lines.now)) }
 {
-    let entry = format!(in alloc; "{table}.{name}")?;
-    let path = format!(in alloc; "{entry}.{key}")?;
+    let path = format!(in alloc; "{table}.{name}.{key}")?;
     line_naming(alloc, lines, &path)
 }
 
