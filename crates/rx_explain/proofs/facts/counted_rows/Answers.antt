@@ -1,9 +1,13 @@
--- One more row is one that counts, or another.
-use Rattle.std.proofs.Common.{◌<◌, ◌∙◌, ◌++◌, ◌∷◌, [], length, sym, ap, arith}
+-- One more row is one that counts, or another; after the last, each was seen.
+use Rattle.std.proofs.Common.{◌<◌, ◌∙◌, ◌++◌, ◌∷◌, [], filter, length, sym, ap, arith}
+use Rattle.std.proofs.lemmas.List.{take_all}
 use Rattle.rx_explain.specs.Shown.{is_counted}
 use Rattle.rx_explain.proofs.Counted.{filter_no, filter_yes}
 use Rattle.rx_explain.proofs.facts.counted_rows.Goals as goal
 use Rattle.rx_explain.proofs.facts.counted_rows.Goals.{then-is_counted+in_ok-push, else-is_counted}
+
+pub loop-row-init : goal.loop-row-init
+loop-row-init c = c.new-counted.ensures.items
 
 pub loop-row-preserved : goal.loop-row-preserved
 loop-row-preserved c =
@@ -21,3 +25,8 @@ loop-row-preserved c =
           ap (λ v. v.items) w.counted-is ∙ c.loop-row.invariant
           ∙ sym (filter_no p rows i r within c.row-item.is (sym w.if-is_counted.ensures))
     ]
+
+pub returns : goal.returns
+returns c =
+    c.loop-row.invariant
+    ∙ ap (filter (is_counted c.args.period c.args.family.now)) (take_all c.loop-row.row-index c.args.rows.now (omega arith))
