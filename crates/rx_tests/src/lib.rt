@@ -46,6 +46,8 @@ mod ledger;
 #[cfg(test)]
 mod one_billing;
 #[cfg(test)]
+mod parcels;
+#[cfg(test)]
 mod plan;
 #[cfg(test)]
 mod refused;
